@@ -1,0 +1,4 @@
+-- Laws on plain numbers that the proofs cite.
+pub mod Columns
+pub mod Scale
+pub mod Order

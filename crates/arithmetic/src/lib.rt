@@ -1,0 +1,110 @@
+// Words of 64 bits: fields cut out by masks and shifts, the product of two words, and the order of numbers of two words.
+// No function branches on its data.
+ghost use mathlib.Core.Path.{_≡_};
+ghost use Prim.Native.Nat.{_-_, _*_, _/_, _%_, _^_, _≤_, _<_};
+ghost use lib.Dec.{ltb};
+ghost use Rattle.arithmetic.specs.Words.{value, bit};
+
+// The number high * 2^64 + low.
+pub struct Wide {
+    pub high: u64,
+    pub low: u64,
+}
+
+// The low 62 bits of a word: "62 of a word" of document 01.
+pub fn low62(word: u64) -> u64
+    ensures { λ r. ⌜ r ≡ word % 2 ^ 62 ⌝ }
+{
+    word & 0x3fff_ffff_ffff_ffff
+}
+
+// The low 8 bits of a word.
+pub fn low8(word: u64) -> u64
+    ensures { λ r. ⌜ r ≡ word % 2 ^ 8 ⌝ }
+{
+    word & 0xff
+}
+
+// Bit 8 of a word.
+pub fn bit8(word: u64) -> u64
+    ensures { λ r. ⌜ r ≡ word / 2 ^ 8 % 2 ⌝ }
+{
+    (word >> 8) & 1
+}
+
+// The low half of a word.
+pub fn low32(word: u64) -> u64
+    ensures { λ r. ⌜ r ≡ word % 2 ^ 32 ⌝ }
+{
+    word & 0xffff_ffff
+}
+
+// The high half of a word.
+pub fn high32(word: u64) -> u64
+    ensures { λ r. ⌜ r ≡ word / 2 ^ 32 ⌝ }
+{
+    word >> 32
+}
+
+// The product of two halves of words.
+fn mul32(a: u64, b: u64) -> u64
+    requires { ⌜ (a < 2 ^ 32) × (b < 2 ^ 32) ⌝ }
+    ensures { λ r. ⌜ (r ≡ a * b) × (r ≤ (2 ^ 32 - 1) * (2 ^ 32 - 1)) ⌝ }
+{
+    a * b
+}
+
+// The product of two words, by columns of 32 bits with their carries.
+pub fn product(a: u64, b: u64) -> Wide
+    ensures { λ r. ⌜ value r ≡ a * b ⌝ }
+{
+    let a0 = low32(a);
+    let a1 = high32(a);
+    let b0 = low32(b);
+    let b1 = high32(b);
+    let w0 = mul32(a0, b0);
+    let t = mul32(a1, b0) + high32(w0);
+    let w1 = low32(t) + mul32(a0, b1);
+    let high = mul32(a1, b1) + high32(t) + high32(w1);
+    let low = (low32(w1) << 32) + low32(w0);
+    Wide { high, low }
+}
+
+// The high word of a product. The compiler makes one multiplication of it.
+pub fn high_word(a: u64, b: u64) -> u64
+    ensures { λ r. ⌜ r ≡ a * b / 2 ^ 64 ⌝ }
+{
+    product(a, b).high
+}
+
+// The whole part of a * b / 2^62.
+pub fn mul_shift62(a: u64, b: u64) -> u64
+    requires { ⌜ b < 2 ^ 62 ⌝ }
+    ensures { λ r. ⌜ r ≡ a * b / 2 ^ 62 ⌝ }
+{
+    high_word(a, 4 * b)
+}
+
+// The whole part of a * a / 2^62.
+pub fn square_shift62(a: u64) -> u64
+    requires { ⌜ a < 2 ^ 63 ⌝ }
+    ensures { λ r. ⌜ r ≡ a * a / 2 ^ 62 ⌝ }
+{
+    let d = 2 * a;
+    high_word(d, d)
+}
+
+// The whole part of a * b / 2^22: b for each 2^22 in a, and the high word for the 22 bits of a below.
+pub fn mul_shift22(a: u64, b: u64) -> u64
+    requires { ⌜ a * b < 2 ^ 86 ⌝ }
+    ensures { λ r. ⌜ r ≡ a * b / 2 ^ 22 ⌝ }
+{
+    (a >> 22) * b + high_word(a << 42, b)
+}
+
+// 1 where the number a is below the number b, else 0. Joined by `&` and `|`, the tests compile to no jump.
+pub fn less(a: Wide, b: Wide) -> u64
+    ensures { λ r. ⌜ r ≡ bit (ltb (value a) (value b)) ⌝ }
+{
+    ((a.high < b.high) | ((a.high == b.high) & (a.low < b.low))) as u64
+}

@@ -1,0 +1,103 @@
+-- The exact fraction's numerator, an integer, as the difference of the sums of its even and of its odd terms. Assumes nothing.
+use mathlib.Core.Path.{_≡_, refl, sym, ap, ap₂, _∙_}
+use Prim.Native.Nat.{ℕ, zero, suc, _+_, _-_, _*_, _^_, _≤_, _<_}
+use native.Mathlib.Nat.{mul-zero, zero-mul, pow-suc, pow-zero, sub-add-cancel}
+use native.Mathlib.Decide.{decLe}
+use native.Mathlib.Numerals.{add-one}
+use native.Mathlib.Omega.{arith}
+use lib.IntN.{ℤ, pos, negsuc, one, negℤ, natAbs, pow, _+ℤ_, _-ℤ_, _*ℤ_, +ℤ-assoc, +ℤ-comm, +ℤ-negℤ-cancel, negℤ-+ℤ, negℤ-negℤ}
+use Rattle.exponential.specs.Exact.{sumℤ, coefficient, term, numerator, denominator, Within}
+
+-- f 0 + f 1 + .. + f (k - 1)
+unfoldable pub sum : (ℕ → ℕ) → ℕ → ℕ
+sum f zero = 0
+sum f (suc k) = sum f k + f k
+
+abbrev pub size : (q n j : ℕ) → ℕ
+size q n j = n ^ j * coefficient q j
+
+-- the terms of even degree, 0 to 20, and those of odd degree, 1 to 19
+unfoldable pub added : (q n : ℕ) → ℕ
+added q n = sum (λ (i : ℕ). size q n (2 * i)) 11
+
+unfoldable pub taken : (q n : ℕ) → ℕ
+taken q n = sum (λ (i : ℕ). size q n (2 * i + 1)) 10
+
+pos-neg : (a b : ℕ) → pos a *ℤ negℤ (pos b) ≡ negℤ (pos (a * b))
+pos-neg a zero = rw mul-zero
+pos-neg a (suc b) = refl
+
+neg-pos : (a b : ℕ) → negℤ (pos a) *ℤ pos b ≡ negℤ (pos (a * b))
+neg-pos zero b = rw zero-mul
+neg-pos (suc a) b = refl
+
+neg-neg : (a b : ℕ) → negℤ (pos a) *ℤ negℤ (pos b) ≡ pos (a * b)
+neg-neg zero zero = refl
+neg-neg zero (suc b) = rw zero-mul
+neg-neg (suc a) zero = rw mul-zero
+neg-neg (suc a) (suc b) = refl
+
+-- even powers of -n, and odd ones
+even-power : (n i : ℕ) → pow (negℤ (pos n)) (2 * i) ≡ pos (n ^ (2 * i))
+unfolding pow one
+even-power n zero = rw pow-zero
+even-power n (suc i) =
+    let e : 2 * suc i ≡ suc (suc (2 * i)) = omega arith in
+    rw (e, even-power n i, pos-neg, neg-neg, pow-suc n (suc (2 * i)), pow-suc n (2 * i))
+
+even-term : (q n i : ℕ) → term q n (2 * i) ≡ pos (size q n (2 * i))
+unfolding term
+even-term q n i = rw (even-power n i)
+
+odd-term : (q n i : ℕ) → term q n (suc (2 * i)) ≡ negℤ (pos (size q n (2 * i + 1)))
+unfolding term pow
+odd-term q n i = rw (even-power n i, pos-neg, neg-pos, add-one, pow-suc n (2 * i))
+
+swap : (x y z : ℤ) → x +ℤ y +ℤ z ≡ x +ℤ z +ℤ y
+swap x y z = +ℤ-assoc x y z ∙ ap (λ (t : ℤ). x +ℤ t) (+ℤ-comm y z) ∙ sym (+ℤ-assoc x z y)
+
+regroup : (a b c d : ℕ) → pos a -ℤ pos b +ℤ pos c +ℤ negℤ (pos d) ≡ pos (a + c) -ℤ pos (b + d)
+regroup a b c d =
+    ap (λ (t : ℤ). t +ℤ negℤ (pos d)) (swap (pos a) (negℤ (pos b)) (pos c)) ∙ +ℤ-assoc (pos (a + c)) (negℤ (pos b)) (negℤ (pos d))
+    ∙ ap (λ (t : ℤ). pos (a + c) +ℤ t) (sym (negℤ-+ℤ (pos b) (pos d)))
+
+-- the sum of the first 2 * i terms
+pairs : (q n i : ℕ) → sumℤ (term q n) (2 * i) ≡ pos (sum (λ (i : ℕ). size q n (2 * i)) i) -ℤ pos (sum (λ (i : ℕ). size q n (2 * i + 1)) i)
+unfolding sumℤ sum
+pairs q n zero = refl
+pairs q n (suc i) =
+    let e : 2 * suc i ≡ suc (suc (2 * i)) = omega arith in
+    rw (e, pairs q n i, even-term q n i, odd-term q n i) (regroup (sum (λ (i : ℕ). size q n (2 * i)) i) (sum (λ (i : ℕ). size q n (2 * i + 1)) i) (size q n (2 * i)) (size q n (2 * i + 1)))
+
+difference : (a b : ℕ) → b ≤ a → pos a -ℤ pos b ≡ pos (a - b)
+difference a b h = ap (λ (x : ℕ). pos x -ℤ pos b) (sym (sub-add-cancel h)) ∙ +ℤ-negℤ-cancel (pos (a - b)) (pos b)
+
+numerator-is : (q n : ℕ) → taken q n ≤ added q n → numerator q n ≡ pos (added q n - taken q n)
+unfolding numerator sumℤ sum added taken
+numerator-is q n h =
+    ap₂ (λ (x y : ℤ). x +ℤ y) (pairs q n 10) (even-term q n 10)
+    ∙ swap (pos (sum (λ (i : ℕ). size q n (2 * i)) 10)) (negℤ (pos (sum (λ (i : ℕ). size q n (2 * i + 1)) 10))) (pos (size q n 20))
+    ∙ difference (added q n) (taken q n) h
+
+power-is : (x k : ℕ) → pow (pos x) k ≡ pos (x ^ k)
+unfolding pow one
+power-is x zero = rw pow-zero
+power-is x (suc k) = rw (power-is x k, pow-suc x k)
+
+abs-neg : (x : ℕ) → natAbs (negℤ (pos x)) ≡ x
+abs-neg zero = refl
+abs-neg (suc x) = refl
+
+reverse : (a b : ℕ) → pos a -ℤ pos b ≡ negℤ (pos b -ℤ pos a)
+reverse a b = +ℤ-comm (pos a) (negℤ (pos b)) ∙ sym (negℤ-+ℤ (pos b) (negℤ (pos a)) ∙ ap (λ (t : ℤ). negℤ (pos b) +ℤ t) (negℤ-negℤ (pos a)))
+
+distance-cases : (a b k : ℕ) → a ≤ b + k → b ≤ a + k → Dec (b ≤ a) → natAbs (pos a -ℤ pos b) ≤ k
+distance-cases a b k u l (yes h) = rw (difference a b h) (omega arith)
+distance-cases a b k u l (no h) = rw (reverse a b, difference b a (omega arith), abs-neg (b - a)) (omega arith)
+
+-- from the two bounds on naturals to the distance of integers
+pub within : (k x q n : ℕ) → taken q n ≤ added q n → x * denominator q ^ 64 ≤ 2 ^ 62 * (added q n - taken q n) ^ 64 + k * denominator q ^ 64 → 2 ^ 62 * (added q n - taken q n) ^ 64 ≤ x * denominator q ^ 64 + k * denominator q ^ 64 → Within k x q n
+unfolding Within
+within k x q n h u l =
+    rw (numerator-is q n h, power-is (added q n - taken q n) 64)
+    (distance-cases (x * denominator q ^ 64) (2 ^ 62 * (added q n - taken q n) ^ 64) (k * denominator q ^ 64) u l (decLe (2 ^ 62 * (added q n - taken q n) ^ 64) (x * denominator q ^ 64)))

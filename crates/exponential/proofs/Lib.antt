@@ -1,0 +1,6 @@
+-- Laws on plain numbers and lists that the proofs cite, and the bound on the error.
+pub mod Table
+pub mod Steps
+pub mod Exact
+pub mod ErrorStep
+pub mod ErrorBound

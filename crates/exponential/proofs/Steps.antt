@@ -1,0 +1,70 @@
+-- One turn of a loop that counts down is one step of the definition. Assumes nothing.
+use mathlib.Core.Path.{_≡_, refl, sym, ap, _∙_}
+use mathlib.Core.List.{List, [], _∷_}
+use Prim.Native.Nat.{ℕ, zero, suc, _+_, _-_, _*_, _/_, _^_, _≤_, _<_}
+use native.Mathlib.Nat.{not-suc-le-zero, le-trans, le-mul-of-pos-right}
+use native.Mathlib.Omega.{arith}
+use lib.ListN.{length, getD, set}
+use lib.Seq.{sets}
+use Rattle.exponential.specs.Exponential.{factorial, polynomialEntry, entriesFrom, polynomial, evaluate, squared, squarings}
+use Rattle.read_list.specs.Entries.{entry, placesDown}
+use Rattle.exponential.proofs.Table.{factorial-pos, entry-low, small-entry, table-at}
+
+before-suc : (k : ℕ) → suc k - 1 ≡ k
+before-suc k = omega arith
+
+pub squarings-step : (k a : ℕ) → 0 < k → squarings (k - 1) (squared a) ≡ squarings k a
+unfolding squarings
+squarings-step zero a h = absurd (not-suc-le-zero h)
+squarings-step (suc k) a h = rw before-suc
+
+pub evaluate-step : (table : List ℕ) (v j a : ℕ) → 0 < j → evaluate table v (j - 1) (getD table (j - 1) 0 - a * v / 2 ^ 62) ≡ evaluate table v j a
+unfolding evaluate
+evaluate-step table v zero a h = absurd (not-suc-le-zero h)
+evaluate-step table v (suc j) a h = rw before-suc
+
+pub places-step : (kind : ℕ) (l : List ℕ) (i j : ℕ) → 0 < j → sets (set l i (entry kind (j - 1))) (suc i) (placesDown kind (j - 1)) ≡ sets l i (placesDown kind j)
+unfolding placesDown
+places-step kind l i zero h = absurd (not-suc-le-zero h)
+places-step kind l i (suc j) h = rw before-suc
+
+-- the evaluation may start from 0 before entry 20
+pub evaluate-start : (table : List ℕ) (v : ℕ) → evaluate table v 21 0 ≡ evaluate table v 20 (getD table 20 0)
+unfolding evaluate
+evaluate-start table v = ap (λ (x : ℕ). evaluate table v 20 x) (omega arith)
+
+pub squarings-end : (k a : ℕ) → k ≤ 0 → a ≡ squarings k a
+unfolding squarings
+squarings-end zero a h = refl
+squarings-end (suc k) a h = absurd (not-suc-le-zero h)
+
+pub evaluate-end : (table : List ℕ) (v j a : ℕ) → j ≤ 0 → a ≡ evaluate table v j a
+unfolding evaluate
+evaluate-end table v zero a h = refl
+evaluate-end table v (suc j) a h = absurd (not-suc-le-zero h)
+
+pub places-end : (kind : ℕ) (l : List ℕ) (i j : ℕ) → j ≤ 0 → l ≡ sets l i (placesDown kind j)
+unfolding placesDown
+places-end kind l i zero h = refl
+places-end kind l i (suc j) h = absurd (not-suc-le-zero h)
+
+-- The table, as it is lent, at the entry before j.
+module _ (table : List ℕ) (is : table ≡ polynomial) where
+  pub table-length : length table ≡ 21
+  unfolding polynomial entriesFrom
+  table-length = ap length is
+
+  read : (k : ℕ) → suc k ≤ 21 → getD table k 0 ≡ polynomialEntry k
+  read k h = ap (λ (t : List ℕ). getD t k 0) is ∙ table-at k h
+
+  pub read-above : (j a : ℕ) → 0 < j → j ≤ 21 → a * factorial j ≤ 2 ^ 62 → a ≤ getD table (j - 1) 0
+  read-above zero a h l s = absurd (not-suc-le-zero h)
+  read-above (suc k) a h l s = rw (before-suc, read k l) (small-entry k a s)
+
+  pub read-small : (j : ℕ) → 0 < j → j ≤ 21 → getD table (j - 1) 0 * factorial (j - 1) ≤ 2 ^ 62
+  read-small zero h l = absurd (not-suc-le-zero h)
+  read-small (suc k) h l = rw (before-suc, read k l) (entry-low k)
+
+  pub read-le : (j : ℕ) → 0 < j → j ≤ 21 → getD table (j - 1) 0 ≤ 2 ^ 62
+  read-le j h l =
+      le-trans (le-mul-of-pos-right (getD table (j - 1) 0) (factorial-pos (j - 1))) (read-small j h l)

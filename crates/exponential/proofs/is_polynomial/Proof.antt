@@ -1,0 +1,86 @@
+-- `exponential::is_polynomial` meets its contract. The loop's invariant: the entries passed are those of the polynomial table. Assumes nothing.
+use mathlib.Core.Path.{_≡_, refl, sym, ap, _∙_}
+use mathlib.Core.Logic.{⊎-elim}
+use mathlib.Core.List.{List}
+use Prim.Native.Nat.{ℕ, _≤_, _<_, _+_, _-_}
+use native.Mathlib.Nat.{not-suc-le-zero, eq-or-lt-of-le}
+use native.Mathlib.Omega.{arith}
+use lib.ListN.{length, getD}
+use lib.Seq.{ext-getD}
+use Rattle.exponential.specs.Exponential.{polynomial}
+use Rattle.exponential.proofs.Table.{table-at, is-polynomial, not-polynomial}
+use Rattle.exponential.proofs.Steps.{table-length}
+use Rattle.exponential.proofs.is_polynomial.Statement.{statement}
+use Rattle.exponential.proofs.is_polynomial.Tie as tie
+
+-- one entry more
+longer : (table : List ℕ) (j : ℕ) → ((i : ℕ) → i < j → getD table i 0 ≡ getD polynomial i 0) → getD table j 0 ≡ getD polynomial j 0 → (i : ℕ) → i < j + 1 → getD table i 0 ≡ getD polynomial i 0
+longer table j all last i h =
+    ⊎-elim (λ (e : i ≡ j). rw e last) (λ (l : i < j). all i l) (eq-or-lt-of-le {n = i} {m = j} (omega arith))
+
+abbrev Inv-loop : tie.InvT-loop
+Inv-loop table j₀ j = (j ≤ 21) × (length table ≡ 21) × ((i : ℕ) → i < j → getD table i 0 ≡ getD polynomial i 0)
+
+abbrev μ-loop : tie.MeasureT-loop
+μ-loop table j₀ j = 21 - j
+
+returns : tie.Need-returns Inv-loop μ-loop
+returns c =
+    let table = c .before .before .args .table .now in
+    not-polynomial table (λ e. c .if1 .taken (table-length table e))
+
+loop-holds : tie.Need-loop-holds Inv-loop μ-loop
+loop-holds c = (omega arith, omega arith, λ i h. absurd (not-suc-le-zero h))
+
+mul-if2 : tie.Need-mul-if2 Inv-loop μ-loop
+mul-if2 c = omega arith
+
+shared-slice-read-if2 : tie.Need-shared-slice-read-if2 Inv-loop μ-loop
+shared-slice-read-if2 c = omega arith
+
+entry-at-requires : tie.Need-entry-at-requires Inv-loop μ-loop
+entry-at-requires c κs = omega arith
+
+returns-2 : tie.Need-returns-2 Inv-loop μ-loop
+returns-2 c =
+    let t = c .before .before .before .before in
+    not-polynomial (t .before .before .before .args .table .now)
+    (λ e. c .if2 .taken (ap (λ (l : List ℕ). getD l (t .loop .j) 0) e ∙ table-at (t .loop .j) (omega arith) ∙ sym (c .before .entry-at .ensures)))
+
+add-j : tie.Need-add-j Inv-loop μ-loop
+add-j c = omega arith
+
+loop-less : tie.Need-loop-less Inv-loop μ-loop
+loop-less c = omega arith
+
+loop-again : tie.Need-loop-again Inv-loop μ-loop
+loop-again c =
+    let t = c .before .before .before .before in
+    let table = t .before .before .before .args .table .now in (
+      omega arith,
+      t .loop .inv .1,
+      longer table (t .loop .j) (t .loop .inv .2) (c .if2 .left ∙ c .before .entry-at .ensures ∙ sym (table-at (t .loop .j) (omega arith))),
+    )
+
+returns-3 : tie.Need-returns-3 Inv-loop μ-loop
+returns-3 c =
+    let t = c .before .loop in
+    let table = c .before .before .before .before .args .table .now in
+    is-polynomial table (ext-getD 0 table polynomial (t .inv .1 ∙ sym (table-length polynomial refl)) (λ i h. t .inv .2 i (omega arith)))
+
+pub is-polynomial-spec : {M : Type 1} → statement M
+is-polynomial-spec =
+    tie.close
+    (tie.spec
+    Inv-loop
+    μ-loop
+    returns
+    loop-holds
+    mul-if2
+    shared-slice-read-if2
+    entry-at-requires
+    returns-2
+    add-j
+    loop-less
+    loop-again
+    returns-3)

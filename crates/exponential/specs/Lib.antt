@@ -1,0 +1,3 @@
+pub mod Exponential
+pub mod Exact
+pub mod ErrorBound

@@ -1,0 +1,40 @@
+-- Entries taken apart, and entries written one after the other. Assumes nothing.
+use mathlib.Core.Path.{_≡_, refl, sym, ap, _∙_}
+use mathlib.Core.List.{List, [], _∷_, _++_}
+use Prim.Native.Nat.{ℕ, zero, suc, _+_, _^_, _≤_, _<_}
+use native.Mathlib.Nat.{add-zero, zero-add, add-suc, suc-add}
+use borrow.Author.Tests.{le-leb}
+use lib.Arith.{digits-div, digits-mod}
+use lib.ListN.{length, drop, set}
+use lib.Seq.{sets, sets-eq, length-sets, take-append-seam}
+use Rattle.read_list.specs.Entries.{entry, kindOf, placeOf, placesUp, placesDown, filledPart}
+
+pub kind-of-entry : (kind : ℕ) {place : ℕ} → place < 2 ^ 24 → kindOf (entry kind place) ≡ kind
+kind-of-entry kind h = digits-div kind h
+
+pub place-of-entry : (kind : ℕ) {place : ℕ} → place < 2 ^ 24 → placeOf (entry kind place) ≡ place
+place-of-entry kind h = digits-mod kind h
+
+pub length-placesUp : (kind place count : ℕ) → length (placesUp kind place count) ≡ count
+unfolding placesUp
+length-placesUp kind place zero = refl
+length-placesUp kind place (suc count) = ap suc (length-placesUp kind (suc place) count)
+
+pub length-placesDown : (kind count : ℕ) → length (placesDown kind count) ≡ count
+unfolding placesDown
+length-placesDown kind zero = refl
+length-placesDown kind (suc count) = ap suc (length-placesDown kind count)
+
+-- entries written one after the other
+pub sets-append : (list : List ℕ) (at : ℕ) (es fs : List ℕ) → sets list at (es ++ fs) ≡ sets (sets list at es) (at + length es) fs
+sets-append list at [] fs = ap (λ (i : ℕ). sets list i fs) (sym (add-zero at))
+sets-append list at (e ∷ es) fs =
+    sets-append (set list at e) (suc at) es fs
+    ∙ ap (λ (i : ℕ). sets (sets (set list at e) (suc at) es) i fs) (suc-add at (length es) ∙ sym (add-suc at (length es)))
+
+-- what is written from the start of a list is its filled part for that count
+pub filled-written : (list es : List ℕ) → length es ≤ length list → filledPart (sets list 0 es) (length es) ≡ es
+unfolding filledPart
+filled-written list es h =
+    rw (length-sets list 0 es, le-leb (length es) (length list) h, sets-eq es list 0 (rw zero-add h))
+    (take-append-seam es (drop (0 + length es) list))

@@ -1,0 +1,2 @@
+-- Laws on entries and on lists of them that the proofs cite.
+pub mod Laws

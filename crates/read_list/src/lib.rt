@@ -1,0 +1,33 @@
+// The read list: one entry for each read of lent memory, written where the read is made.
+ghost use mathlib.Core.Path.{_≡_};
+ghost use Prim.Native.Nat.{_<_, _^_};
+ghost use lib.ListN.{length, getD, set};
+ghost use Rattle.read_list.specs.Entries.{entry, filledPart};
+
+// Writes the entry (kind, place) at the index `at` of a list; the rest of the list is unchanged.
+pub fn note(kind: u32, place: usize, list: &mut [u32], at: usize)
+    requires { ⌜ (kind < 2 ^ 8) × (place < 2 ^ 24) × (at < length (now list)) ⌝ }
+    ensures { λ _. ⌜ now (list .exit) ≡ set (now (list .entry)) at (entry kind place) ⌝ }
+{
+    list[at] = kind * 0x100_0000 + place as u32;
+}
+
+// The word at a place of a lent table, with its entry written at the index `at` of a list; the rest of the list is unchanged.
+pub fn listed_word(table: &[u64], kind: u32, place: usize, list: &mut [u32], at: usize) -> u64
+    requires { ⌜ (place < length (now table)) × (kind < 2 ^ 8) × (place < 2 ^ 24) × (at < length (now list)) ⌝ }
+    ensures { λ r. ⌜ (r ≡ getD (now (table .entry)) place 0) × (now (list .exit) ≡ set (now (list .entry)) at (entry kind place)) ⌝ }
+{
+    note(kind, place, list, at);
+    table[place]
+}
+
+// The filled part of a list: the part of the lent list itself, up to the count; over the list's length, the empty part.
+pub fn filled<'a>(list: &'a [u32], count: usize) -> &'a [u32]
+    ensures { λ r. ⌜ now r ≡ filledPart (now (list .entry)) count ⌝ }
+    ensures { λ r. ⌜ r .ptr ≡ list .entry .ptr ⌝ }
+{
+    if list.len() < count {
+        return &list[..0];
+    }
+    &list[..count]
+}
