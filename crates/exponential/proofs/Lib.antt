@@ -1,6 +1,3 @@
 -- Laws on plain numbers and lists that the proofs cite, and the bound on the error.
 pub mod Table
 pub mod Steps
-pub mod Exact
-pub mod ErrorStep
-pub mod ErrorBound

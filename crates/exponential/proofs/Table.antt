@@ -10,7 +10,6 @@ use lib.Pow.{pow-pos}
 use lib.Dec.{eqb}
 use lib.ListN.{getD, length}
 use Rattle.exponential.specs.Exponential.{factorial, polynomialEntry, entriesFrom, polynomial, sameWords, isPolynomial}
-use Rattle.exponential.specs.Exact.{productAbove}
 
 pub factorial-pos : (k : ℕ) → 0 < factorial k
 unfolding factorial
@@ -31,20 +30,6 @@ entry-at j (suc k) (suc i) h = entry-at (suc j) k i (le-of-suc-le-suc h) ∙ ap 
 pub table-at : (j : ℕ) → j < 21 → getD polynomial j 0 ≡ polynomialEntry j
 unfolding polynomial
 table-at j h = entry-at 0 21 j h ∙ ap polynomialEntry (zero-add j)
-
--- (j + 1) * .. * (j + count) is (j + count)! / j!
-product-above : (j count : ℕ) → productAbove j count * factorial j ≡ factorial (j + count)
-unfolding productAbove
-product-above j zero = rw add-zero (omega arith)
-product-above j (suc count) =
-    let e : j + suc count ≡ suc (j + count) = omega arith in
-    rw (e, factorial-suc (j + count)) (mul-assoc (suc (j + count)) (productAbove j count) (factorial j) ∙ ap (λ (x : ℕ). suc (j + count) * x) (product-above j count))
-
--- the product of j + 1 to 20 is 20! / j!
-pub factorial-ratio : (j : ℕ) → j ≤ 20 → productAbove j (20 - j) * factorial j ≡ factorial 20
-factorial-ratio j h =
-    let e : j + (20 - j) ≡ 20 = omega arith in
-    product-above j (20 - j) ∙ ap factorial e
 
 pub factorial-le : (j : ℕ) → factorial j ≤ factorial (suc j)
 factorial-le j = rw factorial-suc (omega (arith, mul-le-mul-right (factorial j) (zero-lt-suc j)))

@@ -1,3 +1,1 @@
 pub mod Exponential
-pub mod Exact
-pub mod ErrorBound

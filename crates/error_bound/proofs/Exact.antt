@@ -6,7 +6,7 @@ use native.Mathlib.Decide.{decLe}
 use native.Mathlib.Numerals.{add-one}
 use native.Mathlib.Omega.{arith}
 use lib.IntN.{ℤ, pos, negsuc, one, negℤ, natAbs, pow, _+ℤ_, _-ℤ_, _*ℤ_, +ℤ-assoc, +ℤ-comm, +ℤ-negℤ-cancel, negℤ-+ℤ, negℤ-negℤ}
-use Rattle.exponential.specs.Exact.{sumℤ, coefficient, term, numerator, denominator, Within}
+use Rattle.error_bound.specs.Exact.{sumℤ, coefficient, term, numerator, denominator, Within}
 
 -- f 0 + f 1 + .. + f (k - 1)
 unfoldable pub sum : (ℕ → ℕ) → ℕ → ℕ

@@ -2,18 +2,32 @@
 use mathlib.Core.Path.{_≡_, refl, sym, ap, _∙_}
 use mathlib.Core.List.{List}
 use Prim.Native.Nat.{ℕ, zero, suc, _+_, _-_, _*_, _/_, _%_, _^_, _≤_, _<_, min}
-use native.Mathlib.Nat.{le-trans, le-refl, le-of-eq, le-of-suc-le, zero-lt-suc, mul-le-mul, mul-le-mul-left, mul-le-mul-right, le-of-mul-le-mul-left, le-of-mul-le-mul-right, mul-assoc, mul-comm, mul-left-comm, pow-zero, pow-suc, pow-le-pow-left, div-add-mod', mod-lt, div-mul-le-self, le-div-iff-mul-le, lt-div-mul-add, eq-zero-or-pos, sub-add-cancel, sub-le, mul-div-le}
+use native.Mathlib.Nat.{add-zero, le-trans, le-refl, le-of-eq, le-of-suc-le, zero-lt-suc, mul-le-mul, mul-le-mul-left, mul-le-mul-right, le-of-mul-le-mul-left, le-of-mul-le-mul-right, mul-assoc, mul-comm, mul-left-comm, pow-zero, pow-suc, pow-le-pow-left, div-add-mod', mod-lt, div-mul-le-self, le-div-iff-mul-le, lt-div-mul-add, eq-zero-or-pos, sub-add-cancel, sub-le, mul-div-le}
 use native.Mathlib.Numerals.{add-one}
 use native.Mathlib.Omega.{arith}
 use lib.Pow.{pow-pos, pow-add}
 use lib.ListN.{getD}
 use lib.Dec.{lit≤}
 use Rattle.exponential.specs.Exponential.{factorial, polynomialEntry, polynomial, reciprocal, scaled, evaluate, squared, squarings, expScaled, expWith, exp, divisor, divisorAt, limit}
-use Rattle.exponential.specs.Exact.{productAbove, coefficient, denominator, CommonDenominator, Within}
-use Rattle.exponential.specs.ErrorBound as statements
-use Rattle.exponential.proofs.Exact.{sum, size, added, taken, within}
-use Rattle.exponential.proofs.Table.{factorial-pos, factorial-suc, factorial-le, factorial-ratio, entry-low, product-small, small-entry, table-at}
-use Rattle.exponential.proofs.ErrorStep.{step, square-above, square-below}
+use Rattle.error_bound.specs.Exact.{productAbove, coefficient, denominator, CommonDenominator, Within}
+use Rattle.error_bound.specs.ErrorBound as statements
+use Rattle.error_bound.proofs.Exact.{sum, size, added, taken, within}
+use Rattle.exponential.proofs.Table.{factorial-pos, factorial-suc, factorial-le, entry-low, product-small, small-entry, table-at}
+use Rattle.error_bound.proofs.ErrorStep.{step, square-above, square-below}
+
+-- (j + 1) * .. * (j + count) is (j + count)! / j!
+product-above : (j count : ℕ) → productAbove j count * factorial j ≡ factorial (j + count)
+unfolding productAbove
+product-above j zero = rw add-zero (omega arith)
+product-above j (suc count) =
+    let e : j + suc count ≡ suc (j + count) = omega arith in
+    rw (e, factorial-suc (j + count)) (mul-assoc (suc (j + count)) (productAbove j count) (factorial j) ∙ ap (λ (x : ℕ). suc (j + count) * x) (product-above j count))
+
+-- the product of j + 1 to 20 is 20! / j!
+factorial-ratio : (j : ℕ) → j ≤ 20 → productAbove j (20 - j) * factorial j ≡ factorial 20
+factorial-ratio j h =
+    let e : j + (20 - j) ≡ 20 = omega arith in
+    product-above j (20 - j) ∙ ap factorial e
 
 -- the denominator under which the value before polynomialEntry j is taken is q ^ (20 - j) * 20!
 unfoldable scale : (q j : ℕ) → ℕ

@@ -1,7 +1,7 @@
 -- The bound on the error of the exponential: the statements. Their proofs are in proofs/ErrorBound.antt. Assumes nothing.
 use Prim.Native.Nat.{ℕ, _≤_}
 use Rattle.exponential.specs.Exponential.{polynomial, exp, expWith, divisor, divisorAt, limit}
-use Rattle.exponential.specs.Exact.{Within}
+use Rattle.error_bound.specs.Exact.{Within}
 
 -- for every N from 0 to 5,534,960, e(N) differs from the exact fraction by at most 1,024 units
 abbrev pub ErrorBound : Type 0
