@@ -1,11 +1,11 @@
 -- The exact fraction's numerator, an integer, as the difference of the sums of its even and of its odd terms. Assumes nothing.
 use mathlib.Core.Path.{_≡_, refl, sym, ap, ap₂, _∙_}
-use Prim.Native.Nat.{ℕ, zero, suc, _+_, _-_, _*_, _^_, _≤_, _<_}
+use Prim.Native.Nat.{ℕ, zero, suc, _+_, _-_, _*_, _^_, _≤_}
 use native.Mathlib.Nat.{mul-zero, zero-mul, pow-suc, pow-zero, sub-add-cancel}
 use native.Mathlib.Decide.{decLe}
 use native.Mathlib.Numerals.{add-one}
 use native.Mathlib.Omega.{arith}
-use lib.IntN.{ℤ, pos, negsuc, one, negℤ, natAbs, pow, _+ℤ_, _-ℤ_, _*ℤ_, +ℤ-assoc, +ℤ-comm, +ℤ-negℤ-cancel, negℤ-+ℤ, negℤ-negℤ}
+use lib.IntN.{ℤ, pos, one, negℤ, natAbs, pow, _+ℤ_, _-ℤ_, _*ℤ_, +ℤ-assoc, +ℤ-comm, +ℤ-negℤ-cancel, negℤ-+ℤ, negℤ-negℤ}
 use Rattle.error_bound.specs.Exact.{sumℤ, coefficient, term, numerator, denominator, Within}
 
 -- f 0 + f 1 + .. + f (k - 1)

@@ -1,5 +1,5 @@
--- The bound on the error of the exponential: the statements. Their proofs are in proofs/ErrorBound.antt. Assumes nothing.
-use Prim.Native.Nat.{ℕ, _≤_}
+-- The bound on the error of the exponential: the statements. proofs/ErrorBound.antt has a term of each. Assumes nothing.
+use Prim.Native.Nat.{ℕ, _*_, _^_, _≤_, _<_}
 use Rattle.exponential.specs.Exponential.{polynomial, exp, expWith, divisor, divisorAt, limit}
 use Rattle.error_bound.specs.Exact.{Within}
 
@@ -10,3 +10,17 @@ ErrorBound = (n : ℕ) → n ≤ limit → Within 1024 (exp n) divisor n
 -- the same at every deviation from 107 to 271, for every N from 0 to 1,370,625, the largest that an attempt has
 abbrev pub ErrorBoundAtDeviations : Type 0
 ErrorBoundAtDeviations = (deviation n : ℕ) → 107 ≤ deviation → deviation ≤ 271 → n ≤ 1370625 → Within 1024 (expWith polynomial (divisorAt deviation) n) (divisorAt deviation) n
+
+-- N / q is at most 15 / 16, and N at most 4 / 3 * 2 ^ 22
+pub record InRange (q n : ℕ) : Type 0 where
+  pub positive : 0 < q
+  pub ratio : 16 * n ≤ 15 * q
+  pub size : 3 * n ≤ 4 * 2 ^ 22
+
+-- what both are instances of: a bound at every divisor
+abbrev pub ErrorBoundInRange : Type 0
+ErrorBoundInRange = (q n : ℕ) → InRange q n → Within 959 (expWith polynomial q n) q n
+
+-- e(N) is at most 1
+abbrev pub AtMostOne : Type 0
+AtMostOne = (q n : ℕ) → InRange q n → expWith polynomial q n ≤ 2 ^ 62

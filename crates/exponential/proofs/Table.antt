@@ -2,13 +2,13 @@
 use mathlib.Core.Path.{_≡_, refl, sym, ap, _∙_}
 use mathlib.Core.Bool.{Bool, true, false, _&&_}
 use mathlib.Core.List.{List, [], _∷_}
-use Prim.Native.Nat.{ℕ, zero, suc, _+_, _-_, _*_, _/_, _%_, _^_, _≤_, _<_, _∣_}
-use native.Mathlib.Nat.{zero-lt-suc, add-zero, zero-add, add-suc, suc-add, le-of-suc-le-suc, not-suc-le-zero, mul-pos, dvd-refl, dvd-mul-left-of-dvd, div-mul-cancel, sub-add-cancel, le-trans, mul-le-mul-left, mul-le-mul-right, div-mul-le-self, le-div-iff-mul-le, le-of-mul-le-mul-right, mul-assoc}
+use Prim.Native.Nat.{ℕ, zero, suc, _+_, _*_, _/_, _^_, _≤_, _<_}
+use native.Mathlib.Nat.{zero-lt-suc, add-zero, zero-add, add-suc, suc-add, le-of-suc-le-suc, not-suc-le-zero, mul-pos, le-trans, mul-le-mul-left, mul-le-mul-right, div-mul-le-self, le-div-iff-mul-le, le-of-mul-le-mul-right}
 use native.Mathlib.Omega.{arith}
 use borrow.Author.Tests.{eq-eqb, eqb-true}
 use lib.Pow.{pow-pos}
 use lib.Dec.{eqb}
-use lib.ListN.{getD, length}
+use lib.ListN.{getD}
 use Rattle.exponential.specs.Exponential.{factorial, polynomialEntry, entriesFrom, polynomial, sameWords, isPolynomial}
 
 pub factorial-pos : (k : ℕ) → 0 < factorial k
@@ -26,7 +26,7 @@ entry-at j zero i h = absurd (not-suc-le-zero h)
 entry-at j (suc k) zero h = ap polynomialEntry (sym (add-zero j))
 entry-at j (suc k) (suc i) h = entry-at (suc j) k i (le-of-suc-le-suc h) ∙ ap polynomialEntry (suc-add j i ∙ sym (add-suc j i))
 
--- polynomialEntry j of the table
+-- entry j of the table
 pub table-at : (j : ℕ) → j < 21 → getD polynomial j 0 ≡ polynomialEntry j
 unfolding polynomial
 table-at j h = entry-at 0 21 j h ∙ ap polynomialEntry (zero-add j)

@@ -1,6 +1,6 @@
 -- `arithmetic::mul_shift22` meets its contract: the first factor is split at 2 ^ 22. Assumes nothing.
 use borrow.Author.Needs.{needs}
-use mathlib.Core.Path.{_≡_, sym, ap, _∙_}
+use mathlib.Core.Path.{_≡_, ap, _∙_}
 use Prim.Native.Nat.{ℕ, _+_, _*_, _/_, _%_, _^_, _<_}
 use native.Mathlib.Nat.{lt-of-le-of-lt, le-add-right}
 use native.Mathlib.Omega.{arith}

@@ -1,15 +1,15 @@
 -- `exponential::evaluate_listed` meets its contract. The loop's invariant: the steps and the entries left, from a and the list as they are,
 -- give the answer and the list; and a times j! is at most 2 ^ 62. Assumes nothing.
-use mathlib.Core.Path.{_≡_, refl, sym, ap, _∙_}
+use mathlib.Core.Path.{_≡_, refl, _∙_}
 use mathlib.Core.List.{List}
-use Prim.Native.Nat.{ℕ, _≤_, _<_, _+_, _-_, _*_, _/_, _^_}
+use Prim.Native.Nat.{ℕ, _≤_, _<_, _+_, _-_, _*_, _^_}
 use native.Mathlib.Nat.{le-trans, le-mul-of-pos-right, mul-le-mul-right, sub-le}
 use native.Mathlib.Numerals.{add-one}
 use native.Mathlib.Omega.{arith}
 use lib.ListN.{length, getD, length-set}
 use lib.Seq.{sets}
 use Rattle.read_list.specs.Entries.{placesDown}
-use Rattle.exponential.specs.Exponential.{factorial, polynomial, evaluate}
+use Rattle.exponential.specs.Exponential.{factorial, evaluate}
 use Rattle.exponential.proofs.Steps.{evaluate-start, evaluate-step, evaluate-end, places-step, places-end, table-length, read-above, read-le, read-small}
 use Rattle.exponential.proofs.Table.{factorial-pos}
 use Rattle.exponential.proofs.evaluate_listed.Statement.{statement}

@@ -1,8 +1,7 @@
 -- `exponential::exp_listed` meets its contract: v, the evaluation and the six squarings are those of the definition. Assumes nothing.
 use borrow.Author.Needs.{needs}
-use mathlib.Core.Path.{_≡_, ap, _∙_}
-use Prim.Native.Nat.{ℕ, _*_, _/_, _^_, _<_}
-use native.Mathlib.Omega.{arith}
+use mathlib.Core.Path.{ap, _∙_}
+use Prim.Native.Nat.{ℕ}
 use lib.ListN.{getD}
 use Rattle.exponential.specs.Exponential.{scaled, evaluate, squarings, expScaled}
 use Rattle.exponential.proofs.exp_listed.Statement.{statement}
