@@ -4,10 +4,8 @@ use mathlib.Core.List.{List}
 use Prim.Native.Nat.{ℕ, zero, suc, _-_, _*_, _/_, _^_, _≤_, _<_}
 use native.Mathlib.Nat.{not-suc-le-zero, le-trans, le-mul-of-pos-right}
 use native.Mathlib.Omega.{arith}
-use lib.ListN.{length, getD, set}
-use lib.Seq.{sets}
+use lib.ListN.{length, getD}
 use Rattle.exponential.specs.Exponential.{factorial, polynomialEntry, entriesFrom, polynomial, evaluate, squared, squarings}
-use Rattle.read_list.specs.Entries.{entry, placesDown}
 use Rattle.exponential.proofs.Table.{factorial-pos, entry-low, small-entry, table-at}
 
 before-suc : (k : ℕ) → suc k - 1 ≡ k
@@ -23,11 +21,6 @@ unfolding evaluate
 evaluate-step table v zero a h = absurd (not-suc-le-zero h)
 evaluate-step table v (suc j) a h = rw before-suc
 
-pub places-step : (kind : ℕ) (l : List ℕ) (i j : ℕ) → 0 < j → sets (set l i (entry kind (j - 1))) (suc i) (placesDown kind (j - 1)) ≡ sets l i (placesDown kind j)
-unfolding placesDown
-places-step kind l i zero h = absurd (not-suc-le-zero h)
-places-step kind l i (suc j) h = rw before-suc
-
 -- the evaluation may start from 0 before entry 20
 pub evaluate-start : (table : List ℕ) (v : ℕ) → evaluate table v 21 0 ≡ evaluate table v 20 (getD table 20 0)
 unfolding evaluate
@@ -42,11 +35,6 @@ pub evaluate-end : (table : List ℕ) (v j a : ℕ) → j ≤ 0 → a ≡ evalua
 unfolding evaluate
 evaluate-end table v zero a h = refl
 evaluate-end table v (suc j) a h = absurd (not-suc-le-zero h)
-
-pub places-end : (kind : ℕ) (l : List ℕ) (i j : ℕ) → j ≤ 0 → l ≡ sets l i (placesDown kind j)
-unfolding placesDown
-places-end kind l i zero h = refl
-places-end kind l i (suc j) h = absurd (not-suc-le-zero h)
 
 -- The table, as it is lent, at the entry before j.
 module _ (table : List ℕ) (is : table ≡ polynomial) where

@@ -11,6 +11,8 @@ use lib.Dec.{eqb}
 use lib.ListN.{getD}
 use Rattle.exponential.specs.Exponential.{factorial, polynomialEntry, entriesFrom, polynomial, sameWords, isPolynomial}
 
+-- ** Factorials
+
 pub factorial-pos : (k : ℕ) → 0 < factorial k
 unfolding factorial
 factorial-pos zero = zero-lt-suc 0
@@ -19,6 +21,11 @@ factorial-pos (suc k) = mul-pos (zero-lt-suc k) (factorial-pos k)
 pub factorial-suc : (k : ℕ) → factorial (suc k) ≡ suc k * factorial k
 unfolding factorial
 factorial-suc k = refl
+
+pub factorial-le : (j : ℕ) → factorial j ≤ factorial (suc j)
+factorial-le j = rw factorial-suc (omega (arith, mul-le-mul-right (factorial j) (zero-lt-suc j)))
+
+-- ** Entries
 
 entry-at : (j k i : ℕ) → i < k → getD (entriesFrom j k) i 0 ≡ polynomialEntry (j + i)
 unfolding entriesFrom
@@ -30,9 +37,6 @@ entry-at j (suc k) (suc i) h = entry-at (suc j) k i (le-of-suc-le-suc h) ∙ ap 
 pub table-at : (j : ℕ) → j < 21 → getD polynomial j 0 ≡ polynomialEntry j
 unfolding polynomial
 table-at j h = entry-at 0 21 j h ∙ ap polynomialEntry (zero-add j)
-
-pub factorial-le : (j : ℕ) → factorial j ≤ factorial (suc j)
-factorial-le j = rw factorial-suc (omega (arith, mul-le-mul-right (factorial j) (zero-lt-suc j)))
 
 pub entry-low : (j : ℕ) → polynomialEntry j * factorial j ≤ 2 ^ 62
 entry-low j = div-mul-le-self (2 ^ 62) (factorial j)

@@ -6,6 +6,15 @@ ghost use lib.Seq.{sets};
 ghost use Rattle.read_list.specs.Entries.{placesDown};
 ghost use Rattle.exponential.specs.Exponential.{polynomialEntry, polynomial, isPolynomial, evaluate, squared, squarings, expScaled, expOrRefusal};
 
+// R at deviation 215.
+pub const RECIPROCAL_215: u64 = 3269134179596076729;
+
+// The largest N.
+const LIMIT: u64 = 5534960;
+
+// 2^63 + 12.
+const REFUSAL_12: u64 = 0x8000_0000_0000_000c;
+
 const POLYNOMIAL: [u64; 21] = [
     4611686018427387904,
     4611686018427387904,
@@ -113,15 +122,12 @@ pub fn exp_listed(table: &[u64], reciprocal: u64, n: u64, list: &mut [u32], at: 
     power64(a)
 }
 
-// R at deviation 215.
-pub const RECIPROCAL_215: u64 = 3269134179596076729;
-
 // The exponential by n alone: e(n), or 2^63 + 12 (refusal 12) where n is above 5,534,960.
 pub fn exp_or_refusal(n: u64) -> u64
     ensures { λ r. ⌜ r ≡ expOrRefusal n ⌝ }
 {
-    if 5534960 < n {
-        return 9223372036854775820;
+    if LIMIT < n {
+        return REFUSAL_12;
     }
     let table = POLYNOMIAL;
     let mut list = [0u32; 21];

@@ -1,19 +1,24 @@
 -- Entries taken apart, and entries written one after the other. Assumes nothing.
 use mathlib.Core.Path.{_≡_, refl, sym, ap, _∙_}
 use mathlib.Core.List.{List, [], _∷_, _++_}
-use Prim.Native.Nat.{ℕ, zero, suc, _+_, _^_, _≤_, _<_}
-use native.Mathlib.Nat.{add-zero, zero-add, add-suc, suc-add}
+use Prim.Native.Nat.{ℕ, zero, suc, _+_, _-_, _^_, _≤_, _<_}
+use native.Mathlib.Nat.{not-suc-le-zero, add-zero, zero-add, add-suc, suc-add}
+use native.Mathlib.Omega.{arith}
 use borrow.Author.Tests.{le-leb}
 use lib.Arith.{digits-div, digits-mod}
 use lib.ListN.{length, drop, set}
 use lib.Seq.{sets, sets-eq, length-sets, take-append-seam}
 use Rattle.read_list.specs.Entries.{entry, kindOf, placeOf, placesUp, placesDown, filledPart}
 
+-- ** An entry taken apart
+
 pub kind-of-entry : (kind : ℕ) {place : ℕ} → place < 2 ^ 24 → kindOf (entry kind place) ≡ kind
 kind-of-entry kind h = digits-div kind h
 
 pub place-of-entry : (kind : ℕ) {place : ℕ} → place < 2 ^ 24 → placeOf (entry kind place) ≡ place
 place-of-entry kind h = digits-mod kind h
+
+-- ** Runs of entries
 
 pub length-placesUp : (kind place count : ℕ) → length (placesUp kind place count) ≡ count
 unfolding placesUp
@@ -31,6 +36,23 @@ sets-append list at [] fs = ap (λ (i : ℕ). sets list i fs) (sym (add-zero at)
 sets-append list at (e ∷ es) fs =
     sets-append (set list at e) (suc at) es fs
     ∙ ap (λ (i : ℕ). sets (sets (set list at e) (suc at) es) i fs) (suc-add at (length es) ∙ sym (add-suc at (length es)))
+
+-- ** Entries written one by one, the highest place first
+
+before-suc : (k : ℕ) → suc k - 1 ≡ k
+before-suc k = omega arith
+
+pub placesDown-step : (kind : ℕ) (l : List ℕ) (i j : ℕ) → 0 < j → sets (set l i (entry kind (j - 1))) (suc i) (placesDown kind (j - 1)) ≡ sets l i (placesDown kind j)
+unfolding placesDown
+placesDown-step kind l i zero h = absurd (not-suc-le-zero h)
+placesDown-step kind l i (suc j) h = rw (before-suc j)
+
+pub placesDown-end : (kind : ℕ) (l : List ℕ) (i j : ℕ) → j ≤ 0 → l ≡ sets l i (placesDown kind j)
+unfolding placesDown
+placesDown-end kind l i zero h = refl
+placesDown-end kind l i (suc j) h = absurd (not-suc-le-zero h)
+
+-- ** The filled part
 
 -- what is written from the start of a list is its filled part for that count
 pub filled-written : (list es : List ℕ) → length es ≤ length list → filledPart (sets list 0 es) (length es) ≡ es

@@ -9,8 +9,9 @@ use native.Mathlib.Omega.{arith}
 use lib.ListN.{length, getD, length-set}
 use lib.Seq.{sets}
 use Rattle.read_list.specs.Entries.{placesDown}
+use Rattle.read_list.proofs.Laws.{placesDown-step, placesDown-end}
 use Rattle.exponential.specs.Exponential.{factorial, evaluate}
-use Rattle.exponential.proofs.Steps.{evaluate-start, evaluate-step, evaluate-end, places-step, places-end, table-length, read-above, read-le, read-small}
+use Rattle.exponential.proofs.Steps.{evaluate-start, evaluate-step, evaluate-end, table-length, read-above, read-le, read-small}
 use Rattle.exponential.proofs.Table.{factorial-pos}
 use Rattle.exponential.proofs.evaluate_listed.Statement.{statement}
 use Rattle.exponential.proofs.evaluate_listed.Tie as tie
@@ -71,7 +72,7 @@ loop-again c =
       same = rw (read .1, length-set) (t .inv .same);
       small = rw (e, read .0) (le-trans (mul-le-mul-right (factorial (t .j - 1)) (sub-le _ _)) (read-small (s .args .table .now) (s .pre .0) (t .j) more (t .inv .count)));
       value = rw (e, read .0) (evaluate-step (s .args .table .now) (s .args .v) (t .j) (t .a) more ∙ t .inv .value);
-      entries = rw (read .1, add-one) (places-step 4 (t .list) (t .place) (t .j) more ∙ t .inv .entries);
+      entries = rw (read .1, add-one) (placesDown-step 4 (t .list) (t .place) (t .j) more ∙ t .inv .entries);
     }
 
 same-length : tie.Need-same-length Inv-loop μ-loop
@@ -83,7 +84,7 @@ returns c =
     let t = c .before .loop in (
       evaluate-end (s .args .table .now) (s .args .v) (t .j) (t .a) (c .loop-test .left) ∙ t .inv .value,
       le-trans (le-mul-of-pos-right (t .a) (factorial-pos (t .j))) (t .inv .small),
-      places-end 4 (t .list) (t .place) (t .j) (c .loop-test .left) ∙ t .inv .entries,
+      placesDown-end 4 (t .list) (t .place) (t .j) (c .loop-test .left) ∙ t .inv .entries,
     )
 
 pub evaluate-listed-spec : {M : Type 1} → statement M

@@ -1,16 +1,24 @@
 -- `exponential::exp_or_refusal` meets its contract: the constant table is the polynomial table, and the constant is R. Assumes nothing.
 use borrow.Author.Needs.{needs}
 use borrow.Author.Tests.{lt-leb, le-leb}
-use mathlib.Core.Path.{refl}
+use mathlib.Core.Path.{_≡_, refl, _∙_}
+use Prim.Native.Nat.{ℕ, _+_, _^_, _≤_, _<_}
 use native.Mathlib.Omega.{arith}
 use lib.Dec.{lit≤}
-use Rattle.exponential.specs.Exponential.{factorial, entriesFrom, polynomial, reciprocal, expWith, exp, expOrRefusal}
+use Rattle.exponential.specs.Exponential.{factorial, entriesFrom, polynomial, reciprocal, expScaled, expWith, exp, limit, expOrRefusal}
 use Rattle.exponential.proofs.exp_or_refusal.Statement.{statement}
 use Rattle.exponential.proofs.exp_or_refusal.Tie as tie
 
-returns : tie.Need-returns
+refused : (n : ℕ) → limit < n → 2 ^ 63 + 12 ≡ expOrRefusal n
 unfolding expOrRefusal
-returns c = simp (lt-leb _ _ (c .if1 .taken))
+refused n h = simp (lt-leb n limit h)
+
+served : (n : ℕ) → n ≤ limit → expScaled polynomial 3269134179596076729 n ≡ expOrRefusal n
+unfolding expOrRefusal exp expWith reciprocal
+served n h = simp (le-leb n limit h)
+
+returns : tie.Need-returns
+returns c = refused (c .before .args .n) (c .if1 .taken)
 
 slice-aggregate-exp-listed : tie.Need-slice-aggregate-exp-listed
 slice-aggregate-exp-listed c = search needs
@@ -23,8 +31,10 @@ unfolding polynomial entriesFrom factorial
 exp-listed-requires c κs = (refl, omega arith, lit≤ tt)
 
 returns-2 : tie.Need-returns-2
-unfolding expOrRefusal exp expWith reciprocal polynomial entriesFrom factorial
-returns-2 c = simp (le-leb _ _ (c .before .before .before .before .if1 .left)) (c .before .exp-listed .ensures .0)
+unfolding polynomial entriesFrom factorial
+returns-2 c =
+    let s = c .before .before .before .before in
+    c .before .exp-listed .ensures .0 ∙ served (s .before .args .n) (s .if1 .left)
 
 pub exp-or-refusal-spec : {M : Type 1} → statement M
 exp-or-refusal-spec =

@@ -1,10 +1,10 @@
 -- `exponential::is_polynomial` meets its contract. The loop's invariant: the entries passed are those of the polynomial table. Assumes nothing.
 use mathlib.Core.Path.{_≡_, refl, sym, ap, _∙_}
-use mathlib.Core.Logic.{⊎-elim}
 use mathlib.Core.List.{List}
-use Prim.Native.Nat.{ℕ, _≤_, _<_, _+_, _-_}
-use native.Mathlib.Nat.{not-suc-le-zero, eq-or-lt-of-le}
+use Prim.Native.Nat.{ℕ, _≤_, _<_, _-_}
+use native.Mathlib.Nat.{not-suc-le-zero}
 use native.Mathlib.Omega.{arith}
+use borrow.Author.Count.{below-more}
 use lib.ListN.{length, getD}
 use lib.Seq.{ext-getD}
 use Rattle.exponential.specs.Exponential.{polynomial}
@@ -12,11 +12,6 @@ use Rattle.exponential.proofs.Table.{table-at, is-polynomial, not-polyn
 use Rattle.exponential.proofs.Steps.{table-length}
 use Rattle.exponential.proofs.is_polynomial.Statement.{statement}
 use Rattle.exponential.proofs.is_polynomial.Tie as tie
-
--- one entry more
-longer : (table : List ℕ) (j : ℕ) → ((i : ℕ) → i < j → getD table i 0 ≡ getD polynomial i 0) → getD table j 0 ≡ getD polynomial j 0 → (i : ℕ) → i < j + 1 → getD table i 0 ≡ getD polynomial i 0
-longer table j all last i h =
-    ⊎-elim (λ (e : i ≡ j). rw e last) (λ (l : i < j). all i l) (eq-or-lt-of-le {n = i} {m = j} (omega arith))
 
 abbrev Inv-loop : tie.InvT-loop
 Inv-loop table j₀ j = (j ≤ 21) × (length table ≡ 21) × ((i : ℕ) → i < j → getD table i 0 ≡ getD polynomial i 0)
@@ -59,7 +54,7 @@ loop-again c =
     let table = t .before .before .before .args .table .now in (
       omega arith,
       t .loop .inv .1,
-      longer table (t .loop .j) (t .loop .inv .2) (c .if2 .left ∙ c .before .entry-at .ensures ∙ sym (table-at (t .loop .j) (omega arith))),
+      below-more _ _ (t .loop .inv .2) (c .if2 .left ∙ c .before .entry-at .ensures ∙ sym (table-at (t .loop .j) (omega arith))),
     )
 
 returns-3 : tie.Need-returns-3 Inv-loop μ-loop
