@@ -4,7 +4,6 @@ Each e(n) is also compared with the exact fraction that it stands for, the 64th 
 (-n / 5916800)^j / j!: a distance of more than 1024 units of 2^-62 ends the program with an error. The largest
 distance on either side is reported on standard error.
 """
-from fractions import Fraction
 from math import factorial
 import sys
 
@@ -26,9 +25,10 @@ def e(n):
 
 
 def distance(n):
-    """e(n) less the exact fraction, in units."""
-    x = Fraction(-n, DIVISOR)
-    return e(n) - ONE * sum(x**j / factorial(j) for j in range(21)) ** 64
+    """e(n) less the exact fraction, in units, as a fraction: over the denominator q^20 * 20! each term is whole."""
+    terms = ((-n)**j * DIVISOR**(20 - j) * (factorial(20) // factorial(j)) for j in range(21))
+    denominator = (DIVISOR**20 * factorial(20))**64
+    return e(n) * denominator - ONE * sum(terms)**64, denominator
 
 
 named = [0, 1, 513, 46225, 92450, 1370625, LIMIT, LIMIT + 1, 2**63, 2**64 - 1]
@@ -36,7 +36,7 @@ points = named + list(range(9973, LIMIT, 9973))
 for n in points:
     print(n, e(n) if n <= LIMIT else 2**63 + 12)
 distances = [distance(n) for n in points if n <= LIMIT]
-if max(map(abs, distances)) > 1024:
+if any(abs(over) > 1024 * denominator for over, denominator in distances):
     sys.exit("e(n) is more than 1024 units from the exact fraction")
-print(f"{len(distances)} points from {float(min(distances)):.1f} to {float(max(distances)):.1f} units from the exact fraction",
-      file=sys.stderr)
+tenths = [10 * over // denominator for over, denominator in distances]
+print(f"{len(tenths)} points, from {min(tenths) / 10} to {max(tenths) / 10} units from the exact fraction", file=sys.stderr)
