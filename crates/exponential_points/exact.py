@@ -31,7 +31,7 @@ def distance(n):
     return e(n) * denominator - ONE * sum(terms)**64, denominator
 
 
-named = [0, 1, 513, 46225, 92450, 1370625, LIMIT, LIMIT + 1, 2**63, 2**64 - 1]
+named = [0, 1, 450, 513, 1028, 46225, 92450, 1370625, LIMIT, LIMIT + 1, 2**63, 2**64 - 1]
 points = named + list(range(9973, LIMIT, 9973))
 for n in points:
     print(n, e(n) if n <= LIMIT else 2**63 + 12)

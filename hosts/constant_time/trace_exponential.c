@@ -2,8 +2,6 @@
  * the secrets, with no jump or address that hangs on it. */
 #include "bliss_box.h"
 
-#include <stdlib.h>
-
 static volatile uint64_t result;
 
 /* The same value for every n, in a time that hangs on n: what the comparison must find. */

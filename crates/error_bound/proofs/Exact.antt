@@ -1,5 +1,5 @@
 -- The exact fraction's numerator, an integer, as the difference of the sums of its even and of its odd terms. Assumes nothing.
-use mathlib.Core.Path.{_≡_, refl, sym, ap, ap₂, _∙_}
+use mathlib.Core.Path.{_≡_, refl, sym, ap, ap₂, subst⁻¹, _∙_}
 use Prim.Native.Nat.{ℕ, zero, suc, _+_, _-_, _*_, _^_, _≤_}
 use native.Mathlib.Nat.{mul-zero, zero-mul, pow-suc, pow-zero, sub-add-cancel}
 use native.Mathlib.Decide.{decLe}
@@ -45,13 +45,18 @@ even-power n (suc i) =
     let e : 2 * suc i ≡ suc (suc (2 * i)) = omega arith in
     rw (e, even-power n i, pos-neg, neg-neg, pow-suc n (suc (2 * i)), pow-suc n (2 * i))
 
-even-term : (q n i : ℕ) → term q n (2 * i) ≡ pos (size q n (2 * i))
-unfolding term
-even-term q n i = rw (even-power n i)
+odd-power : (n i : ℕ) → pow (negℤ (pos n)) (suc (2 * i)) ≡ negℤ (pos (n ^ (2 * i + 1)))
+unfolding pow
+odd-power n i = rw (even-power n i, pos-neg, add-one, pow-suc n (2 * i))
 
 odd-term : (q n i : ℕ) → term q n (suc (2 * i)) ≡ negℤ (pos (size q n (2 * i + 1)))
-unfolding term pow
-odd-term q n i = rw (even-power n i, pos-neg, neg-pos, add-one, pow-suc n (2 * i))
+unfolding term
+odd-term q n i =
+    ap (λ (x : ℤ). x *ℤ pos (coefficient q (suc (2 * i)))) (odd-power n i) ∙ rw add-one (neg-pos (n ^ suc (2 * i)) (coefficient q (suc (2 * i))))
+
+even-term : (q n i : ℕ) → term q n (2 * i) ≡ pos (size q n (2 * i))
+unfolding term
+even-term q n i = ap (λ (x : ℤ). x *ℤ pos (coefficient q (2 * i))) (even-power n i)
 
 swap : (x y z : ℤ) → x +ℤ y +ℤ z ≡ x +ℤ z +ℤ y
 swap x y z = +ℤ-assoc x y z ∙ ap (λ (t : ℤ). x +ℤ t) (+ℤ-comm y z) ∙ sym (+ℤ-assoc x z y)
@@ -95,9 +100,14 @@ distance-cases : (a b k : ℕ) → a ≤ b + k → b ≤ a + k → Dec (b ≤ a)
 distance-cases a b k u l (yes h) = rw (difference a b h) (omega arith)
 distance-cases a b k u l (no h) = rw (reverse a b, difference b a (omega arith), abs-neg (b - a)) (omega arith)
 
+numerator-power : (q n : ℕ) → taken q n ≤ added q n → pow (numerator q n) 64 ≡ pos ((added q n - taken q n) ^ 64)
+numerator-power q n h = ap (λ (x : ℤ). pow x 64) (numerator-is q n h) ∙ power-is (added q n - taken q n) 64
+
 -- from the two bounds on naturals to the distance of integers
 pub within : (k x q n : ℕ) → taken q n ≤ added q n → x * denominator q ^ 64 ≤ 2 ^ 62 * (added q n - taken q n) ^ 64 + k * denominator q ^ 64 → 2 ^ 62 * (added q n - taken q n) ^ 64 ≤ x * denominator q ^ 64 + k * denominator q ^ 64 → Within k x q n
 unfolding Within
 within k x q n h u l =
-    rw (numerator-is q n h, power-is (added q n - taken q n) 64)
-    (distance-cases (x * denominator q ^ 64) (2 ^ 62 * (added q n - taken q n) ^ 64) (k * denominator q ^ 64) u l (decLe (2 ^ 62 * (added q n - taken q n) ^ 64) (x * denominator q ^ 64)))
+    let X = x * denominator q ^ 64 in
+    let S = 2 ^ 62 * (added q n - taken q n) ^ 64 in
+    subst⁻¹ (λ (z : ℤ). natAbs (pos X -ℤ pos (2 ^ 62) *ℤ z) ≤ k * denominator q ^ 64) (numerator-power q n h)
+    (distance-cases X S (k * denominator q ^ 64) u l (decLe S X))

@@ -1,4 +1,4 @@
--- The polynomial table and the factorials. Assumes nothing.
+-- The polynomial table, the factorials and the constants of deviation 215. Assumes nothing.
 use mathlib.Core.Path.{_≡_, refl, sym, ap, _∙_}
 use mathlib.Core.Bool.{Bool, true, false, _&&_}
 use mathlib.Core.List.{List, [], _∷_}
@@ -9,7 +9,7 @@ use borrow.Author.Tests.{eq-eqb, eqb-true}
 use lib.Pow.{pow-pos}
 use lib.Dec.{eqb}
 use lib.ListN.{getD}
-use Rattle.exponential.specs.Exponential.{factorial, polynomialEntry, entriesFrom, polynomial, sameWords, isPolynomial}
+use Rattle.exponential.specs.Exponential.{factorial, polynomialEntry, entriesFrom, polynomial, sameWords, isPolynomial, reciprocal, divisorAt, divisor}
 
 -- ** Factorials
 
@@ -82,3 +82,12 @@ not-polynomial table h = by (isPolynomial table) refl
     by : (t : Bool) → isPolynomial table ≡ t → false ≡ t
     by true e = absurd (h (polynomial-of table e))
     by false e = refl
+
+-- ** Deviation 215
+
+pub divisor-at-215 : divisorAt 215 ≡ divisor
+divisor-at-215 = refl
+
+pub reciprocal-215 : reciprocal divisor ≡ 3269134179596076729
+unfolding reciprocal
+reciprocal-215 = refl

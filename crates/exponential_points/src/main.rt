@@ -1,11 +1,14 @@
-// Prints n and the exponential by n alone, a pair to a line: at n that document 01 names, where n is refused, and at a spread of n.
+// Prints n and the exponential by n alone, a pair to a line: at n that document 01 names, at 450 and 1028, where e(n) is farthest above
+// and below the exact fraction, where n is refused, and at a spread of n.
 // The file stdout beside src/ is written by exact.py, another program.
 use libc::STDOUT_FILENO;
 
-const NAMED: [u64; 10] = [
+const NAMED: [u64; 12] = [
     0,
     1,
+    450,
     513,
+    1028,
     46225,
     92450,
     1370625,
@@ -24,7 +27,7 @@ fn show(n: u64) {
 
 fn main() {
     let mut i: usize = 0;
-    while i < 10 {
+    while i < 12 {
         show(NAMED[i]);
         i += 1;
     }

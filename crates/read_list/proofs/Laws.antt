@@ -39,13 +39,10 @@ sets-append list at (e ∷ es) fs =
 
 -- ** Entries written one by one, the highest place first
 
-before-suc : (k : ℕ) → suc k - 1 ≡ k
-before-suc k = omega arith
-
 pub placesDown-step : (kind : ℕ) (l : List ℕ) (i j : ℕ) → 0 < j → sets (set l i (entry kind (j - 1))) (suc i) (placesDown kind (j - 1)) ≡ sets l i (placesDown kind j)
 unfolding placesDown
 placesDown-step kind l i zero h = absurd (not-suc-le-zero h)
-placesDown-step kind l i (suc j) h = rw (before-suc j)
+placesDown-step kind l i (suc j) h = let e : suc j - 1 ≡ j = omega arith in rw e
 
 pub placesDown-end : (kind : ℕ) (l : List ℕ) (i j : ℕ) → j ≤ 0 → l ≡ sets l i (placesDown kind j)
 unfolding placesDown

@@ -5,7 +5,8 @@ use mathlib.Core.Path.{_≡_, refl, _∙_}
 use Prim.Native.Nat.{ℕ, _+_, _^_, _≤_, _<_}
 use native.Mathlib.Omega.{arith}
 use lib.Dec.{lit≤}
-use Rattle.exponential.specs.Exponential.{factorial, entriesFrom, polynomial, reciprocal, expScaled, expWith, exp, limit, expOrRefusal}
+use Rattle.exponential.specs.Exponential.{factorial, entriesFrom, polynomial, expScaled, expWith, exp, limit, expOrRefusal}
+use Rattle.exponential.proofs.Table.{reciprocal-215}
 use Rattle.exponential.proofs.exp_or_refusal.Statement.{statement}
 use Rattle.exponential.proofs.exp_or_refusal.Tie as tie
 
@@ -14,8 +15,8 @@ unfolding expOrRefusal
 refused n h = simp (lt-leb n limit h)
 
 served : (n : ℕ) → n ≤ limit → expScaled polynomial 3269134179596076729 n ≡ expOrRefusal n
-unfolding expOrRefusal exp expWith reciprocal
-served n h = simp (le-leb n limit h)
+unfolding expOrRefusal exp expWith
+served n h = simp (le-leb n limit h, reciprocal-215)
 
 returns : tie.Need-returns
 returns c = refused (c .before .args .n) (c .if1 .taken)

@@ -6,10 +6,10 @@ use Rattle.exponential_points.proofs.main.Statement.{statement}
 use Rattle.exponential_points.proofs.main.Tie as tie
 
 abbrev Inv-loop : tie.InvT-loop
-Inv-loop i₀ i = i ≤ 10
+Inv-loop i₀ i = i ≤ 12
 
 abbrev μ-loop : tie.MeasureT-loop
-μ-loop i₀ i = 10 - i
+μ-loop i₀ i = 12 - i
 
 abbrev Inv-loop2 : tie.InvT-loop2
 Inv-loop2 i n₀ n = n ≤ 5544933
