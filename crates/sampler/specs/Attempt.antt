@@ -1,0 +1,77 @@
+-- The base sample and the attempt of document 01. Assumes nothing.
+use mathlib.Core.Bool.{Bool, not, cond, _&&_}
+use mathlib.Core.List.{List}
+use Prim.Native.Nat.{ℕ, zero, suc, _+_, _*_, _/_, _%_, _^_}
+use lib.Dec.{leb, ltb, eqb}
+use lib.ListN.{getD}
+use lib.IntN.{ℤ, pos, negℤ}
+use Rattle.arithmetic.specs.Words.{bit}
+use Rattle.checks.specs.Checks.{allBelow}
+
+-- ** The CDT table
+
+-- threshold i, from 0: its high word, then its low word
+abbrev pub threshold : (cdt : List ℕ) (i : ℕ) → ℕ
+threshold cdt i = getD cdt (2 * i) 0 * 2 ^ 62 + getD cdt (2 * i + 1) 0
+
+-- whether every word is below 2 ^ 62
+unfoldable pub wordsSmall : (cdt : List ℕ) → Bool
+wordsSmall cdt = allBelow (λ (i : ℕ). ltb (getD cdt i 0) (2 ^ 62)) 20
+
+-- whether the thresholds never fall
+unfoldable pub neverFalls : (cdt : List ℕ) → Bool
+neverFalls cdt = allBelow (λ (i : ℕ). leb (threshold cdt i) (threshold cdt (suc i))) 9
+
+-- ** Base sample
+
+-- of the first count thresholds, the number at or below d
+unfoldable pub atOrBelow : (cdt : List ℕ) (d count : ℕ) → ℕ
+atOrBelow cdt d zero = 0
+atOrBelow cdt d (suc count) = atOrBelow cdt d count + bit (leb (threshold cdt count) d)
+
+-- x: the number of thresholds at or below d
+unfoldable pub baseSample : (cdt : List ℕ) (d : ℕ) → ℕ
+baseSample cdt d = atOrBelow cdt d 10
+
+-- ** Attempt, over x, the low bits b, the sign and u
+
+abbrev pub size : (x b : ℕ) → ℕ
+size x b = 256 * x + b
+
+-- N
+abbrev pub exponent : (x b : ℕ) → ℕ
+exponent x b = b * (b + 512 * x)
+
+-- the accept bit: u is below e(N), and not (size 0 and sign 1)
+unfoldable pub accepts : (e : ℕ → ℕ) (x b : ℕ) (negative : Bool) (u : ℕ) → Bool
+accepts e x b negative u = ltb u (e (exponent x b)) && not (eqb (size x b) 0 && negative)
+
+-- the sample: the size with its sign
+unfoldable pub sample : (x b : ℕ) (negative : Bool) → ℤ
+sample x b negative = cond negative (negℤ (pos (size x b))) (pos (size x b))
+
+-- ** Attempt t, from its four words
+
+-- d: 62 of the first word, and 62 of the second
+abbrev pub drawAt : (words : List ℕ) (t : ℕ) → ℕ
+drawAt words t = getD words (4 * t) 0 % 2 ^ 62 * 2 ^ 62 + getD words (4 * t + 1) 0 % 2 ^ 62
+
+-- b: the low 8 bits of the third word
+abbrev pub lowBitsAt : (words : List ℕ) (t : ℕ) → ℕ
+lowBitsAt words t = getD words (4 * t + 2) 0 % 2 ^ 8
+
+-- the sign: bit 8 of the third word, 1 being negative
+abbrev pub negativeAt : (words : List ℕ) (t : ℕ) → Bool
+negativeAt words t = eqb (getD words (4 * t + 2) 0 / 2 ^ 8 % 2) 1
+
+-- u: 62 of the fourth word
+abbrev pub uniformAt : (words : List ℕ) (t : ℕ) → ℕ
+uniformAt words t = getD words (4 * t + 3) 0 % 2 ^ 62
+
+-- the accept bit of attempt t
+unfoldable pub bitAt : (e : ℕ → ℕ) (cdt words : List ℕ) (t : ℕ) → Bool
+bitAt e cdt words t = accepts e (baseSample cdt (drawAt words t)) (lowBitsAt words t) (negativeAt words t) (uniformAt words t)
+
+-- the sample of attempt t
+unfoldable pub sampleAt : (cdt words : List ℕ) (t : ℕ) → ℤ
+sampleAt cdt words t = sample (baseSample cdt (drawAt words t)) (lowBitsAt words t) (negativeAt words t)

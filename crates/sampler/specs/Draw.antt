@@ -1,0 +1,62 @@
+-- The draw of document 01, read off the accept bits of its attempts. Assumes nothing.
+use mathlib.Core.Bool.{Bool, true, false, cond}
+use mathlib.Core.List.{List, [], _∷_, _++_}
+use Prim.Native.Nat.{ℕ, zero, suc, _+_, _*_}
+use lib.Dec.{eqb}
+use lib.ListN.{length, replicate}
+use lib.IntN.{ℤ, pos}
+use Rattle.arithmetic.specs.Words.{bit}
+use Rattle.read_list.specs.Entries.{entry, placesUp, placesDown}
+use Rattle.sampler.specs.Attempt.{bitAt, sampleAt}
+
+-- ** The attempts made
+
+-- the samples still wanted after an attempt, where suc wanted were wanted before it
+abbrev pub stillWanted : (accepted : Bool) (wanted : ℕ) → ℕ
+stillWanted true wanted = wanted
+stillWanted false wanted = suc wanted
+
+-- the bits of the attempts from t on, with so many attempts left and samples wanted: they end where either is none
+unfoldable pub bitsFrom : (bitOf : ℕ → Bool) (t left wanted : ℕ) → List Bool
+bitsFrom bitOf t zero wanted = []
+bitsFrom bitOf t (suc left) zero = []
+bitsFrom bitOf t (suc left) (suc wanted) = bitOf t ∷ bitsFrom bitOf (suc t) left (stillWanted (bitOf t) wanted)
+
+-- the bits of a draw of so many samples, within a limit of attempts
+unfoldable pub drawBits : (e : ℕ → ℕ) (cdt words : List ℕ) (limit want : ℕ) → List Bool
+drawBits e cdt words limit want = bitsFrom (bitAt e cdt words) 0 limit want
+
+-- ** What follows from the bits
+
+-- the accepted count
+unfoldable pub accepted : List Bool → ℕ
+accepted [] = 0
+accepted (b ∷ bits) = bit b + accepted bits
+
+-- full: as many samples as wanted
+abbrev pub isFull : (want : ℕ) (bits : List Bool) → Bool
+isFull want bits = eqb (accepted bits) want
+
+-- the samples that are accepted, of the attempts from t on
+unfoldable pub samplesFrom : (sampleOf : ℕ → ℤ) (t : ℕ) (bits : List Bool) → List ℤ
+samplesFrom sampleOf t [] = []
+samplesFrom sampleOf t (b ∷ bits) = cond b (sampleOf t ∷ samplesFrom sampleOf (suc t) bits) (samplesFrom sampleOf (suc t) bits)
+
+-- y after a draw: the samples where it is full, else zeros
+unfoldable pub drawY : (cdt words : List ℕ) (want : ℕ) (bits : List Bool) → List ℤ
+drawY cdt words want bits = cond (isFull want bits) (samplesFrom (sampleAt cdt words) 0 bits) (replicate want (pos 0))
+
+-- ** The read list
+
+-- the entries of attempt t, with so many samples accepted before it
+unfoldable pub attemptEntries : (t before : ℕ) → List ℕ
+attemptEntries t before = placesUp 2 (4 * t) 4 ++ (placesUp 3 0 20 ++ (placesDown 4 21 ++ (entry 5 before ∷ [])))
+
+-- the entries of the attempts from t on, and the last one
+unfoldable pub entriesFrom : (t before : ℕ) (bits : List Bool) → List ℕ
+entriesFrom t before [] = entry 6 before ∷ []
+entriesFrom t before (b ∷ bits) = attemptEntries t before ++ entriesFrom (suc t) (before + bit b) bits
+
+-- the entries of a draw of degree n
+unfoldable pub drawEntries : (n : ℕ) (bits : List Bool) → List ℕ
+drawEntries n bits = entry 1 n ∷ entriesFrom 0 0 bits

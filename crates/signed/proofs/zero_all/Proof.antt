@@ -1,0 +1,65 @@
+-- `signed::zero_all` meets its contract: after i turns the first i values are zero, and the others stand. Assumes nothing.
+use borrow.Author.Needs.{needs}
+use mathlib.Core.Path.{_≡_, refl, sym, ap, subst, _∙_}
+use mathlib.Core.List.{List, [], _∷_, _++_, append-nil}
+use Prim.Native.Nat.{ℕ, zero, suc, _≤_, _<_, _+_, _-_}
+use native.Mathlib.Nat.{not-suc-le-zero, le-of-suc-le-suc}
+use native.Mathlib.Numerals.{add-one}
+use native.Mathlib.Omega.{arith}
+use lib.IntN.{ℤ, pos}
+use lib.ListN.{length, replicate, drop, set, length-set}
+use lib.Seq.{drop-length}
+use Rattle.signed.proofs.zero_all.Statement.{statement}
+use Rattle.signed.proofs.zero_all.Tie as tie
+
+fill-suc : (n : ℕ) (v : ℤ) (d : List ℤ) → n < length d → set (replicate n v ++ drop n d) n v ≡ replicate (suc n) v ++ drop (suc n) d
+fill-suc n v [] l = absurd (not-suc-le-zero l)
+fill-suc zero v (x ∷ d) l = refl
+fill-suc (suc n) v (x ∷ d) l = ap (λ (t : List ℤ). v ∷ t) (fill-suc n v d (le-of-suc-le-suc l))
+
+fill-more : (n : ℕ) (v : ℤ) (d : List ℤ) → n < length d → set (replicate n v ++ drop n d) n v ≡ replicate (n + 1) v ++ drop (n + 1) d
+fill-more n v d l = subst (λ (k : ℕ). set (replicate n v ++ drop n d) n v ≡ replicate k v ++ drop k d) (sym (add-one n)) (fill-suc n v d l)
+
+abbrev Inv-loop : tie.InvT-loop
+Inv-loop values₀ i₀ values i = (i ≤ length values₀) × (length values ≡ length values₀) × (values ≡ replicate i (pos 0) ++ drop i values₀)
+
+abbrev μ-loop : tie.MeasureT-loop
+μ-loop values₀ i₀ values i = length values₀ - i
+
+loop-holds : tie.Need-loop-holds Inv-loop μ-loop
+loop-holds c = (search needs, refl, refl)
+
+mul-values : tie.Need-mul-values Inv-loop μ-loop
+mul-values c = search needs
+
+slice-set-of-values : tie.Need-slice-set-of-values Inv-loop μ-loop
+slice-set-of-values c = search needs
+
+add-i : tie.Need-add-i Inv-loop μ-loop
+add-i c = search needs
+
+loop-less : tie.Need-loop-less Inv-loop μ-loop
+loop-less c = search needs
+
+loop-again : tie.Need-loop-again Inv-loop μ-loop
+loop-again c =
+    let inv = c .before .loop .inv in
+    let d = c .before .before .args .values .now in
+    let i = c .before .loop .i in
+    let h : i < length d = omega arith in
+    (omega arith, simp length-set (inv .1), ap (λ (l : List ℤ). set l i (pos 0)) (inv .2) ∙ fill-more i (pos 0) d h)
+
+same-length : tie.Need-same-length Inv-loop μ-loop
+same-length c = search needs
+
+returns : tie.Need-returns Inv-loop μ-loop
+returns c =
+    let inv = c .before .loop .inv in
+    let d = c .before .before .args .values .now in
+    let e : c .before .loop .i ≡ length d = omega arith in
+    inv .2 ∙ rw (e, drop-length d, append-nil)
+
+pub zero-all-spec : {M : Type 1} → statement M
+zero-all-spec =
+    tie.close
+    (tie.spec Inv-loop μ-loop loop-holds mul-values slice-set-of-values add-i loop-less loop-again same-length returns)
