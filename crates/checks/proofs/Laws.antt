@@ -75,6 +75,9 @@ module _ (test : ℕ → Bool) where
   unfolding allBelow
   all-more i h t = rw (add-one, h) t
 
+  pub all-done : (i n : ℕ) → i ≤ n → n ≤ i → allBelow test i ≡ true → true ≡ allBelow test n
+  all-done i n h g t = sym (ap (allBelow test) (le-antisymm g h) ∙ t)
+
   pub all-broken : (i n : ℕ) → i < n → test i ≡ false → allBelow test n ≡ false
   unfolding allBelow
   all-broken i zero h t = absurd (not-suc-le-zero h)

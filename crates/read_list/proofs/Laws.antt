@@ -3,6 +3,7 @@ use mathlib.Core.Path.{_≡_, refl, sym, ap, _∙_}
 use mathlib.Core.List.{List, [], _∷_, _++_}
 use Prim.Native.Nat.{ℕ, zero, suc, _+_, _-_, _^_, _≤_, _<_}
 use native.Mathlib.Nat.{not-suc-le-zero, add-zero, zero-add, add-suc, suc-add}
+use native.Mathlib.Numerals.{add-one}
 use native.Mathlib.Omega.{arith}
 use borrow.Author.Tests.{le-leb}
 use lib.Arith.{digits-div, digits-mod}
@@ -36,6 +37,16 @@ sets-append list at [] fs = ap (λ (i : ℕ). sets list i fs) (sym (add-zero at)
 sets-append list at (e ∷ es) fs =
     sets-append (set list at e) (suc at) es fs
     ∙ ap (λ (i : ℕ). sets (sets (set list at e) (suc at) es) i fs) (suc-add at (length es) ∙ sym (add-suc at (length es)))
+
+-- ** Entries written one by one, the lowest place first
+
+pub placesUp-step : (kind : ℕ) (l : List ℕ) (i place count : ℕ) → sets (set l i (entry kind place)) (i + 1) (placesUp kind (place + 1) count) ≡ sets l i (placesUp kind place (count + 1))
+unfolding placesUp
+placesUp-step kind l i place count = rw (add-one i, add-one place, add-one count)
+
+pub placesUp-end : (kind : ℕ) (l : List ℕ) (i place count : ℕ) → count ≡ 0 → l ≡ sets l i (placesUp kind place count)
+unfolding placesUp
+placesUp-end kind l i place count e = rw e
 
 -- ** Entries written one by one, the highest place first
 

@@ -1,12 +1,14 @@
 -- The base sample and the attempt of document 01. Assumes nothing.
-use mathlib.Core.Bool.{Bool, not, cond, _&&_}
+use mathlib.Core.Path.{_≡_}
+use mathlib.Core.Bool.{Bool, true, not, cond, _&&_}
 use mathlib.Core.List.{List}
-use Prim.Native.Nat.{ℕ, zero, suc, _+_, _*_, _/_, _%_, _^_}
+use Prim.Native.Nat.{ℕ, zero, suc, _+_, _*_, _/_, _%_, _^_, _<_}
 use lib.Dec.{leb, ltb, eqb}
-use lib.ListN.{getD}
+use lib.ListN.{length, getD}
 use lib.IntN.{ℤ, pos, negℤ}
 use Rattle.arithmetic.specs.Words.{bit}
 use Rattle.checks.specs.Checks.{allBelow}
+use Rattle.exponential.specs.Exponential.{polynomial}
 
 -- ** The CDT table
 
@@ -51,6 +53,13 @@ unfoldable pub sample : (x b : ℕ) (negative : Bool) → ℤ
 sample x b negative = cond negative (negℤ (pos (size x b))) (pos (size x b))
 
 -- ** Attempt t, from its four words
+
+-- the tables and the number R for which an attempt is made: N is at most 1,370,625
+pub record Tables (cdt polynomialTable : List ℕ) (r : ℕ) : Type 0 where
+  pub twenty : length cdt ≡ 20
+  pub small : wordsSmall cdt ≡ true
+  pub is-polynomial : polynomialTable ≡ polynomial
+  pub scales : 1370625 * r < 2 ^ 84
 
 -- d: 62 of the first word, and 62 of the second
 abbrev pub drawAt : (words : List ℕ) (t : ℕ) → ℕ

@@ -1,12 +1,15 @@
 -- The draw of document 01, read off the accept bits of its attempts. Assumes nothing.
+use mathlib.Core.Path.{_≡_}
 use mathlib.Core.Bool.{Bool, true, false, cond}
 use mathlib.Core.List.{List, [], _∷_, _++_}
 use Prim.Native.Nat.{ℕ, zero, suc, _+_, _*_}
 use lib.Dec.{eqb}
-use lib.ListN.{length, replicate}
+use lib.ListN.{length, take, replicate}
+use lib.Seq.{sets}
 use lib.IntN.{ℤ, pos}
 use Rattle.arithmetic.specs.Words.{bit}
 use Rattle.read_list.specs.Entries.{entry, placesUp, placesDown}
+use Rattle.sampler.specs.declared.Counts.{Counts}
 use Rattle.sampler.specs.Attempt.{bitAt, sampleAt}
 
 -- ** The attempts made
@@ -60,3 +63,27 @@ entriesFrom t before (b ∷ bits) = attemptEntries t before ++ entriesFrom (suc 
 -- the entries of a draw of degree n
 unfoldable pub drawEntries : (n : ℕ) (bits : List Bool) → List ℕ
 drawEntries n bits = entry 1 n ∷ entriesFrom 0 0 bits
+
+-- ** A whole draw
+
+-- what a draw leaves: its counts, y and the list
+pub record DrawLeft : Type 0 where
+  pub counts : Counts
+  pub y : List ℤ
+  pub list : List ℕ
+
+-- what a draw of degree n with these bits leaves: the entries stand from the start of the list on, and the rest of it is unchanged
+unfoldable pub drawn : (n : ℕ) (cdt words : List ℕ) (bits : List Bool) (list : List ℕ) → DrawLeft
+drawn n cdt words bits list = record {
+  counts = record { attempts = length bits; accepted = accepted bits; entries = length (drawEntries n bits) };
+  y = drawY cdt words (2 * n) bits;
+  list = sets list 0 (drawEntries n bits);
+}
+
+-- what the attempts of a draw with these bits leave, whether it is full or spent: the samples are the first of y
+pub record Attempted (sampleOf : ℕ → ℤ) (bits : List Bool) (before : List ℕ) (counts : Counts) (y : List ℤ) (list : List ℕ) : Type 0 where
+  pub attempts-are : counts .attempts ≡ length bits
+  pub accepted-are : counts .accepted ≡ accepted bits
+  pub entries-are : counts .entries ≡ 1 + length (entriesFrom 0 0 bits)
+  pub samples-are : take (counts .accepted) y ≡ samplesFrom sampleOf 0 bits
+  pub list-is : list ≡ sets before 1 (entriesFrom 0 0 bits)

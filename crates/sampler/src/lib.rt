@@ -1,16 +1,16 @@
 // The base sample, the attempt and the draw of document 01. Nothing branches on a word, a sample or e(N): accept bits alone
 // steer the loop of a draw, and they are public.
 ghost use mathlib.Core.Path.{_≡_};
-ghost use mathlib.Core.Bool.{not, _&&_};
-ghost use Prim.Native.Nat.{_+_, _*_, _^_, _≤_, _<_};
+ghost use mathlib.Core.Bool.{true, not, _&&_};
+ghost use Prim.Native.Nat.{_+_, _*_, _/_, _%_, _^_, _≤_, _<_};
 ghost use lib.Dec.{leb, ltb, eqb};
 ghost use lib.ListN.{length, getD, set, take};
 ghost use lib.Seq.{sets};
 ghost use Rattle.arithmetic.specs.Words.{bit};
 ghost use Rattle.read_list.specs.Entries.{placesUp};
-ghost use Rattle.exponential.specs.Exponential.{polynomial, expScaled};
-ghost use Rattle.sampler.specs.Attempt.{threshold, wordsSmall, neverFalls, baseSample, size, exponent, sample, bitAt, sampleAt};
-ghost use Rattle.sampler.specs.Draw.{attemptEntries, entriesFrom, samplesFrom, accepted, drawBits, drawY, drawEntries};
+ghost use Rattle.exponential.specs.Exponential.{expScaled};
+ghost use Rattle.sampler.specs.Attempt.{wordsSmall, neverFalls, baseSample, size, exponent, sample, Tables, bitAt, sampleAt};
+ghost use Rattle.sampler.specs.Draw.{attemptEntries, drawBits, Attempted, DrawLeft, drawn};
 use arithmetic::Wide;
 
 // Whether every word of a CDT table is below 2^62.
@@ -50,7 +50,10 @@ fn threshold_at(cdt: &[u64], i: usize) -> Wide
     requires { ⌜ (length (now cdt) ≡ 20) × (i < 10) ⌝ }
     ensures { λ r. ⌜ (r .high ≡ getD (now (cdt .entry)) (2 * i) 0) × (r .low ≡ getD (now (cdt .entry)) (2 * i + 1) 0) ⌝ }
 {
-    Wide { high: cdt[2 * i], low: cdt[2 * i + 1] }
+    Wide {
+        high: cdt[2 * i],
+        low: cdt[2 * i + 1],
+    }
 }
 
 // 1 where the number a is at or below b, else 0: each has a low part below 2^62.
@@ -96,7 +99,12 @@ fn attempt_words(words: &[u64], place: usize, list: &mut [u32], at: usize) -> At
     let second = read_list::listed_word(words, 2, place + 1, list, at + 1);
     let third = read_list::listed_word(words, 2, place + 2, list, at + 2);
     let fourth = read_list::listed_word(words, 2, place + 3, list, at + 3);
-    AttemptWords { first, second, third, fourth }
+    AttemptWords {
+        first,
+        second,
+        third,
+        fourth,
+    }
 }
 
 // N, by which an attempt is accepted.
@@ -133,8 +141,8 @@ fn attempt(
     list: &mut [u32],
     at: usize,
 ) -> bool
-    requires { ⌜ (length (now cdt) ≡ 20) × (wordsSmall (now cdt) ≡ true) × (now table ≡ polynomial) × (1370625 * reciprocal < 2 ^ 84) ⌝ }
-    requires { ⌜ (t < 2 ^ 20) × (4 * t + 4 ≤ length (now words)) × (k < length (now y)) × (k < 2 ^ 24) × (at + 46 ≤ length (now list)) ⌝ }
+    requires { ⌜ Tables (now cdt) (now table) reciprocal ⌝ }
+    requires { ⌜ (t < 2 ^ 20) × (4 * t + 4 ≤ length (now words)) × (k < length (now y)) × (k < 2 ^ 24) × (at + 46 ≤ length (now list)) × (at < 2 ^ 32) ⌝ }
     ensures { λ r. ⌜ r ≡ bitAt (expScaled (now (table .entry)) reciprocal) (now (cdt .entry)) (now (words .entry)) t ⌝ }
     ensures { λ _. ⌜ now (y .exit) ≡ set (now (y .entry)) k (sampleAt (now (cdt .entry)) (now (words .entry)) t) ⌝ }
     ensures { λ _. ⌜ now (list .exit) ≡ sets (now (list .entry)) at (attemptEntries t k) ⌝ }
@@ -142,7 +150,10 @@ fn attempt(
     let w = attempt_words(words, 4 * t, list, at);
     let third = w.third;
     let fourth = w.fourth;
-    let draw = Wide { high: arithmetic::low62(w.first), low: arithmetic::low62(w.second) };
+    let draw = Wide {
+        high: arithmetic::low62(w.first),
+        low: arithmetic::low62(w.second),
+    };
     let x = scan(cdt, draw, list, at + 4);
     let n = exponent_of(x, arithmetic::low8(third));
     let e = exponential::exp_listed(table, reciprocal, n, list, at + 24);
@@ -169,11 +180,9 @@ fn attempts(
     y: &mut [i32],
     list: &mut [u32],
 ) -> Counts
-    requires { ⌜ (length (now cdt) ≡ 20) × (wordsSmall (now cdt) ≡ true) × (now table ≡ polynomial) × (1370625 * reciprocal < 2 ^ 84) ⌝ }
+    requires { ⌜ Tables (now cdt) (now table) reciprocal ⌝ }
     requires { ⌜ (limit ≤ 2 ^ 20) × (4 * limit ≤ length (now words)) × (want ≤ length (now y)) × (want < 2 ^ 24) × (46 * limit + 2 ≤ length (now list)) ⌝ }
-    ensures { λ r. ⌜ (r .attempts ≡ length (drawBits (expScaled (now (table .entry)) reciprocal) (now (cdt .entry)) (now (words .entry)) limit want)) × (r .accepted ≡ accepted (drawBits (expScaled (now (table .entry)) reciprocal) (now (cdt .entry)) (now (words .entry)) limit want)) × (r .entries ≡ 1 + length (entriesFrom 0 0 (drawBits (expScaled (now (table .entry)) reciprocal) (now (cdt .entry)) (now (words .entry)) limit want))) ⌝ }
-    ensures { λ r. ⌜ take (r .accepted) (now (y .exit)) ≡ samplesFrom (sampleAt (now (cdt .entry)) (now (words .entry))) 0 (drawBits (expScaled (now (table .entry)) reciprocal) (now (cdt .entry)) (now (words .entry)) limit want) ⌝ }
-    ensures { λ _. ⌜ now (list .exit) ≡ sets (now (list .entry)) 1 (entriesFrom 0 0 (drawBits (expScaled (now (table .entry)) reciprocal) (now (cdt .entry)) (now (words .entry)) limit want)) ⌝ }
+    ensures { λ r. ⌜ Attempted (sampleAt (now (cdt .entry)) (now (words .entry))) (drawBits (expScaled (now (table .entry)) reciprocal) (now (cdt .entry)) (now (words .entry)) limit want) (now (list .entry)) r (now (y .exit)) (now (list .exit)) ⌝ }
 {
     let mut t: usize = 0;
     let mut k: usize = 0;
@@ -185,7 +194,11 @@ fn attempts(
         t += 1;
     }
     read_list::note(6, k, list, at);
-    Counts { attempts: t, accepted: k, entries: at + 1 }
+    Counts {
+        attempts: t,
+        accepted: k,
+        entries: at + 1,
+    }
 }
 
 // A draw of 2n samples within a limit of attempts: y holds the samples where there are as many as wanted, else it is all zero. Entries
@@ -200,11 +213,9 @@ pub fn draw(
     y: &mut [i32],
     list: &mut [u32],
 ) -> Counts
-    requires { ⌜ (length (now cdt) ≡ 20) × (wordsSmall (now cdt) ≡ true) × (now table ≡ polynomial) × (1370625 * reciprocal < 2 ^ 84) ⌝ }
+    requires { ⌜ Tables (now cdt) (now table) reciprocal ⌝ }
     requires { ⌜ (degree ≤ 2 ^ 20) × (limit ≤ 2 ^ 20) × (4 * limit ≤ length (now words)) × (length (now y) ≡ 2 * degree) × (46 * limit + 2 ≤ length (now list)) ⌝ }
-    ensures { λ r. ⌜ (r .attempts ≡ length (drawBits (expScaled (now (table .entry)) reciprocal) (now (cdt .entry)) (now (words .entry)) limit (2 * degree))) × (r .accepted ≡ accepted (drawBits (expScaled (now (table .entry)) reciprocal) (now (cdt .entry)) (now (words .entry)) limit (2 * degree))) × (r .entries ≡ length (drawEntries degree (drawBits (expScaled (now (table .entry)) reciprocal) (now (cdt .entry)) (now (words .entry)) limit (2 * degree)))) ⌝ }
-    ensures { λ _. ⌜ now (y .exit) ≡ drawY (now (cdt .entry)) (now (words .entry)) (2 * degree) (drawBits (expScaled (now (table .entry)) reciprocal) (now (cdt .entry)) (now (words .entry)) limit (2 * degree)) ⌝ }
-    ensures { λ _. ⌜ now (list .exit) ≡ sets (now (list .entry)) 0 (drawEntries degree (drawBits (expScaled (now (table .entry)) reciprocal) (now (cdt .entry)) (now (words .entry)) limit (2 * degree))) ⌝ }
+    ensures { λ r. ⌜ record { counts = r; y = now (y .exit); list = now (list .exit) } ≡ drawn degree (now (cdt .entry)) (now (words .entry)) (drawBits (expScaled (now (table .entry)) reciprocal) (now (cdt .entry)) (now (words .entry)) limit (2 * degree)) (now (list .entry)) ⌝ }
 {
     let want = 2 * degree;
     read_list::note(1, degree, list, 0);

@@ -34,7 +34,15 @@ pub struct Drawn {
 }
 
 // The first refusal of a draw that applies, or 0. Sizes are multiplied only after their factors are found small.
-fn draw_refusal(n: usize, limit: usize, cdt: &[u64], polynomial: &[u64], words: usize, y: usize, list: usize) -> u32
+fn draw_refusal(
+    n: usize,
+    limit: usize,
+    cdt: &[u64],
+    polynomial: &[u64],
+    words: usize,
+    y: usize,
+    list: usize,
+) -> u32
     ensures { λ r. ⌜ r ≡ drawRefusal n limit (now (cdt .entry)) (now (polynomial .entry)) words y list ⌝ }
 {
     if !checks::is_degree(n) {
@@ -70,9 +78,21 @@ impl Session {
         ensures { λ r. ⌜ r ≡ opened n ⌝ }
     {
         if checks::is_degree(n) {
-            return Opened { refusal: 0, session: Session { degree: n, drawn: false } };
+            return Opened {
+                refusal: 0,
+                session: Session {
+                    degree: n,
+                    drawn: false,
+                },
+            };
         }
-        Opened { refusal: 1, session: Session { degree: 0, drawn: false } }
+        Opened {
+            refusal: 1,
+            session: Session {
+                degree: 0,
+                drawn: false,
+            },
+        }
     }
 
     // Draws 2n samples into y within a limit of attempts. The reads are listed from the start of the list on.
@@ -91,17 +111,39 @@ impl Session {
         let refusal = draw_refusal(n, limit, cdt, polynomial, words.len(), y.len(), list.len());
         if refusal != 0 {
             return Drawn {
-                answer: DrawAnswer { refusal, attempts: 0, accepted: 0, entries: 0 },
+                answer: DrawAnswer {
+                    refusal,
+                    attempts: 0,
+                    accepted: 0,
+                    entries: 0,
+                },
                 session: self,
             };
         }
-        let counts = sampler::draw(n, limit, cdt, polynomial, exponential::RECIPROCAL_215, words, y, list);
+        let counts = sampler::draw(
+            n,
+            limit,
+            cdt,
+            polynomial,
+            exponential::RECIPROCAL_215,
+            words,
+            y,
+            list,
+        );
         let attempts = counts.attempts;
         let accepted = counts.accepted;
         let entries = counts.entries;
         Drawn {
-            answer: DrawAnswer { refusal: 0, attempts, accepted, entries },
-            session: Session { degree: n, drawn: accepted == 2 * n },
+            answer: DrawAnswer {
+                refusal: 0,
+                attempts,
+                accepted,
+                entries,
+            },
+            session: Session {
+                degree: n,
+                drawn: accepted == 2 * n,
+            },
         }
     }
 }

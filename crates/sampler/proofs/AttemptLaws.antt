@@ -1,0 +1,49 @@
+-- An attempt, from its words as they are read: its bit, its sample and its entries. Assumes nothing.
+use mathlib.Core.Path.{_≡_, sym, ap, ap₂, _∙_}
+use mathlib.Core.Bool.{Bool, not, _&&_}
+use mathlib.Core.List.{List, [], _∷_, _++_}
+use Prim.Native.Nat.{ℕ, _+_, _*_, _/_, _%_, _^_}
+use native.Mathlib.Omega.{arith}
+use lib.Dec.{ltb, eqb}
+use lib.IntN.{ℤ}
+use lib.ListN.{set, getD}
+use lib.Seq.{sets}
+use Rattle.read_list.specs.Entries.{entry, placesUp, placesDown}
+use Rattle.read_list.proofs.Laws.{sets-append}
+use Rattle.sampler.specs.Attempt.{baseSample, size, exponent, accepts, sample, drawAt, bitAt, sampleAt}
+use Rattle.sampler.specs.Draw.{attemptEntries}
+
+-- ** The bit and the sample
+
+module _ (cdt words : List ℕ) (t first second third fourth high low x : ℕ)
+    (e₁ : first ≡ getD words (4 * t) 0) (e₂ : second ≡ getD words (4 * t + 1) 0) (e₃ : third ≡ getD words (4 * t + 2) 0) (e₄ : fourth ≡ getD words (4 * t + 3) 0)
+    (eh : high ≡ first % 2 ^ 62) (el : low ≡ second % 2 ^ 62) (ex : x ≡ baseSample cdt (high * 2 ^ 62 + low)) where
+  base-at : x ≡ baseSample cdt (drawAt words t)
+  base-at = ex ∙ rw (eh, el, e₁, e₂)
+
+  pub bit-at : (e : ℕ → ℕ) (b n value : ℕ) (r : Bool) → b ≡ third % 2 ^ 8 → n ≡ exponent x b → value ≡ e n
+      → r ≡ (ltb (fourth % 2 ^ 62) value && not (eqb (size x (third % 2 ^ 8)) 0 && eqb (third / 2 ^ 8 % 2) 1)) → r ≡ bitAt e cdt words t
+  unfolding bitAt accepts
+  bit-at e b n value r eb en ev er = er ∙ rw (ev, en, eb, base-at, e₃, e₄)
+
+  pub sample-at : sample x (third % 2 ^ 8) (eqb (third / 2 ^ 8 % 2) 1) ≡ sampleAt cdt words t
+  unfolding sampleAt
+  sample-at = rw (base-at, e₃)
+
+-- ** The entries
+
+pub attempt-written : (l l₁ l₂ l₃ l₄ : List ℕ) (at t k : ℕ) → l₁ ≡ sets l at (placesUp 2 (4 * t) 4) → l₂ ≡ sets l₁ (at + 4) (placesUp 3 0 20) → l₃ ≡ sets l₂ (at + 24) (placesDown 4 21) → l₄ ≡ set l₃ (at + 45) (entry 5 k)
+    → l₄ ≡ sets l at (attemptEntries t k)
+unfolding attemptEntries placesUp placesDown
+attempt-written l l₁ l₂ l₃ l₄ at t k e₁ e₂ e₃ e₄ =
+    let a : at + 4 + 20 ≡ at + 24 = omega arith in
+    let b : at + 24 + 21 ≡ at + 45 = omega arith in
+    let last = entry 5 k ∷ [] in
+    sym (
+    sets-append l at (placesUp 2 (4 * t) 4) (placesUp 3 0 20 ++ (placesDown 4 21 ++ last))
+    ∙ ap (λ (x : List ℕ). sets x (at + 4) (placesUp 3 0 20 ++ (placesDown 4 21 ++ last))) (sym e₁)
+    ∙ sets-append l₁ (at + 4) (placesUp 3 0 20) (placesDown 4 21 ++ last)
+    ∙ ap₂ (λ (x : List ℕ) (n : ℕ). sets x n (placesDown 4 21 ++ last)) (sym e₂) a
+    ∙ sets-append l₂ (at + 24) (placesDown 4 21) last
+    ∙ ap₂ (λ (x : List ℕ) (n : ℕ). sets x n last) (sym e₃) b
+    ∙ sym e₄)

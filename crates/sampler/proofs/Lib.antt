@@ -1,0 +1,3 @@
+pub mod Thresholds
+pub mod AttemptLaws
+pub mod DrawLaws

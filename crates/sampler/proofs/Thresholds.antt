@@ -1,0 +1,52 @@
+-- Thresholds: their words, their order, and the number of them at or below a draw. Assumes nothing.
+use mathlib.Core.Path.{_≡_, refl, sym, ap, _∙_}
+use mathlib.Core.Bool.{Bool, true, false}
+use mathlib.Core.List.{List}
+use Prim.Native.Nat.{ℕ, _+_, _-_, _*_, _^_, _≤_, _<_}
+use native.Mathlib.Numerals.{add-one}
+use native.Mathlib.Omega.{arith}
+use lib.Dec.{leb, ltb}
+use lib.ListN.{getD}
+use borrow.Author.Tests.{ltb-true, ltb-false, le-leb, lt-leb}
+use Rattle.arithmetic.specs.Words.{bit}
+use Rattle.arithmetic.proofs.Order.{digits-order}
+use Rattle.checks.proofs.Laws.{all-at}
+use Rattle.sampler.specs.Attempt.{threshold, wordsSmall, atOrBelow}
+
+-- ** Words and their order
+
+pub word-small : (cdt : List ℕ) (i : ℕ) → i < 20 → wordsSmall cdt ≡ true → getD cdt i 0 < 2 ^ 62
+unfolding wordsSmall
+word-small cdt i h e = ltb-true (getD cdt i 0) (2 ^ 62) (all-at (λ (j : ℕ). ltb (getD cdt j 0) (2 ^ 62)) i 20 h e)
+
+-- numbers with low digits below 2 ^ 62 have one order in both bases
+base-62 : (h l h′ l′ : ℕ) → l < 2 ^ 62 → l′ < 2 ^ 62 → ltb (h * 2 ^ 64 + l) (h′ * 2 ^ 64 + l′) ≡ ltb (h * 2 ^ 62 + l) (h′ * 2 ^ 62 + l′)
+base-62 h l h′ l′ s s′ = sym (digits-order (2 ^ 64) h l h′ l′ (omega arith) (omega arith)) ∙ digits-order (2 ^ 62) h l h′ l′ s s′
+
+not-above : (m n : ℕ) → 1 - bit (ltb n m) ≡ bit (leb m n)
+not-above m n = by (ltb n m) refl
+  where
+    by : (t : Bool) → ltb n m ≡ t → 1 - bit t ≡ bit (leb m n)
+    by true e = rw (lt-leb m n (ltb-true n m e))
+    by false e = rw (le-leb m n (ltb-false n m e))
+
+pub bit-le : (t : Bool) → bit t ≤ 1
+bit-le true = omega arith
+bit-le false = omega arith
+
+pub bit-zero : (t : Bool) → bit t ≡ 0 → t ≡ false
+bit-zero true e = absurd (omega arith)
+bit-zero false e = refl
+
+pub bit-not-zero : (t : Bool) → (bit t ≡ 0 → ⊥) → t ≡ true
+bit-not-zero true h = refl
+bit-not-zero false h = absurd (h refl)
+
+pub at-or-below : (h l h′ l′ : ℕ) → l < 2 ^ 62 → l′ < 2 ^ 62 → 1 - bit (ltb (h′ * 2 ^ 64 + l′) (h * 2 ^ 64 + l)) ≡ bit (leb (h * 2 ^ 62 + l) (h′ * 2 ^ 62 + l′))
+at-or-below h l h′ l′ s s′ = ap (λ (t : Bool). 1 - bit t) (base-62 h′ l′ h l s′ s) ∙ not-above (h * 2 ^ 62 + l) (h′ * 2 ^ 62 + l′)
+
+-- ** The number at or below a draw
+
+pub at-or-below-next : (cdt : List ℕ) (d i : ℕ) → atOrBelow cdt d (i + 1) ≡ atOrBelow cdt d i + bit (leb (threshold cdt i) d)
+unfolding atOrBelow
+at-or-below-next cdt d i = rw (add-one i)

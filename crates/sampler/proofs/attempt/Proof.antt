@@ -1,0 +1,105 @@
+-- `sampler::attempt` meets its contract. Assumes nothing.
+use mathlib.Core.Path.{ap, _∙_}
+use Prim.Native.Nat.{ℕ}
+use lib.IntN.{ℤ}
+use lib.ListN.{set}
+use Rattle.exponential.specs.Exponential.{expScaled}
+use Rattle.sampler.proofs.AttemptLaws.{bit-at, sample-at, attempt-written}
+use native.Mathlib.Nat.{lt-of-le-of-lt, mul-le-mul-right}
+use native.Mathlib.Omega.{arith}
+use borrow.Author.Needs.{needs}
+use Rattle.sampler.proofs.attempt.Statement.{statement}
+use Rattle.sampler.proofs.attempt.Tie as tie
+
+mul-attempt-words : tie.Need-mul-attempt-words
+mul-attempt-words c = search needs
+
+attempt-words-requires : tie.Need-attempt-words-requires
+attempt-words-requires c κs = search needs
+
+low62-requires : tie.Need-low62-requires
+low62-requires c κs = search needs
+
+low62-requires-2 : tie.Need-low62-requires-2
+low62-requires-2 c κs = search needs
+
+add-scan : tie.Need-add-scan
+add-scan c = search needs
+
+scan-requires : tie.Need-scan-requires
+scan-requires c κs = search needs
+
+low8-requires : tie.Need-low8-requires
+low8-requires c κs = search needs
+
+exponent-of-requires : tie.Need-exponent-of-requires
+exponent-of-requires c κs = search needs
+
+add-exp-listed : tie.Need-add-exp-listed
+add-exp-listed c = search needs
+
+exp-listed-requires : tie.Need-exp-listed-requires
+exp-listed-requires c κs =
+    let s = c .before .before .before .before .before .before .before .before .before .before .before .before .before .before .before .before .before in
+    (s .pre .0 .is-polynomial, lt-of-le-of-lt (mul-le-mul-right (s .args .reciprocal) (c .before .exponent-of .ensures .1)) (s .pre .0 .scales), search needs)
+
+add-note : tie.Need-add-note
+add-note c = search needs
+
+note-requires : tie.Need-note-requires
+note-requires c κs = search needs
+
+judged-requires : tie.Need-judged-requires
+judged-requires c κs =
+    let s = c .before .before .before .before .before .before .before .before .before .before .before .before .before .before .before .before .before .before .before .before .before .before .before .before .before in
+    (c .before .before .before .before .before .before .before .before .before .before .before .before .before .scan .ensures .1, s .pre .1 .2)
+
+same-length : tie.Need-same-length
+same-length c = search needs
+
+same-length-2 : tie.Need-same-length-2
+same-length-2 c = search needs
+
+returns : tie.Need-returns
+returns c =
+    let j = c .before in
+    let n = j .before .before .before .before in
+    let e = n .before .before .before .before in
+    let x = e .before .before in
+    let b = x .before in
+    let r = b .before .before .before in
+    let l = r .before .before in
+    let h = l .before in
+    let w = h .before .before .before in
+    let s = w .before .before .before .before .before .before in
+    let words = w .attempt-words .ensures in
+    let scanned = r .scan .ensures in (
+      bit-at (s .args .cdt .now) (s .args .words .now) (s .args .t) _ _ _ _ _ _ _ (words .0) (words .1) (words .2) (words .3) (h .low62 .ensures) (l .low622 .ensures) (scanned .0)
+          (expScaled (s .args .table .now) (s .args .reciprocal)) _ _ _ _ (b .low8 .ensures) (x .exponent-of .ensures .0) (e .exp-listed .ensures .0) (j .judged .ensures .0),
+      (
+        j .judged .ensures .1
+            ∙ ap (λ (z : ℤ). set (s .args .y .now) (s .args .k) z) (sample-at (s .args .cdt .now) (s .args .words .now) (s .args .t) _ _ _ _ _ _ _ (words .0) (words .1) (words .2) (words .3) (h .low62 .ensures) (l .low622 .ensures) (scanned .0)),
+        attempt-written _ _ _ _ _ _ _ _ (words .4) (scanned .2) (e .exp-listed .ensures .2) (n .note .ensures),
+      ),
+    )
+
+pub attempt-spec : {M : Type 1} → statement M
+attempt-spec =
+    tie.close
+    (tie.spec
+    mul-attempt-words
+    attempt-words-requires
+    low62-requires
+    low62-requires-2
+    add-scan
+    scan-requires
+    low8-requires
+    exponent-of-requires
+    add-exp-listed
+    exp-listed-requires
+    add-note
+    note-requires
+    judged-requires
+    same-length
+    same-length-2
+    returns)

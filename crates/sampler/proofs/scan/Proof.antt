@@ -1,0 +1,128 @@
+-- `sampler::scan` meets its contract. The loop's invariant: x counts the thresholds before i, and the entries of the others, from the list as it
+-- is, give the list. Assumes nothing.
+use mathlib.Core.Path.{_≡_, refl, sym, ap, ap₂, _∙_}
+use mathlib.Core.List.{List}
+use Prim.Native.Nat.{ℕ, _≤_, _<_, _+_, _-_, _*_, _^_}
+use native.Mathlib.Omega.{arith}
+use lib.Dec.{leb}
+use lib.ListN.{length, set, getD, length-set}
+use lib.Seq.{sets}
+use Rattle.arithmetic.specs.Words.{bit}
+use Rattle.read_list.specs.Entries.{entry, placesUp}
+use Rattle.read_list.proofs.Laws.{placesUp-step, placesUp-end}
+use Rattle.sampler.specs.Attempt.{threshold, atOrBelow, baseSample}
+use Rattle.sampler.proofs.Thresholds.{word-small, bit-le, at-or-below-next}
+use Rattle.sampler.proofs.scan.Statement.{statement}
+use Rattle.sampler.proofs.scan.Tie as tie
+
+record Turn (cdt : List ℕ) (d : ℕ) (list₀ : List ℕ) (at : ℕ) (list : List ℕ) (x i : ℕ) : Type 0 where
+  turns : i ≤ 10
+  small : x ≤ i
+  count : x ≡ atOrBelow cdt d i
+  same : length list ≡ length list₀
+  entries : sets list (at + 2 * i) (placesUp 3 (2 * i) (20 - 2 * i)) ≡ sets list₀ at (placesUp 3 0 20)
+
+-- two entries more
+two-more : (l l₁ l₂ : List ℕ) (at i : ℕ) → i < 10 → l₁ ≡ set l (at + 2 * i) (entry 3 (2 * i)) → l₂ ≡ set l₁ (at + 2 * i + 1) (entry 3 (2 * i + 1))
+    → sets l₂ (at + 2 * (i + 1)) (placesUp 3 (2 * (i + 1)) (20 - 2 * (i + 1))) ≡ sets l (at + 2 * i) (placesUp 3 (2 * i) (20 - 2 * i))
+two-more l l₁ l₂ at i h e₁ e₂ =
+    let place : 2 * (i + 1) ≡ 2 * i + 1 + 1 = omega arith in
+    let here : at + 2 * (i + 1) ≡ at + 2 * i + 1 + 1 = omega arith in
+    let left : 20 - 2 * (i + 1) + 1 + 1 ≡ 20 - 2 * i = omega arith in
+    let m = 20 - 2 * (i + 1) in
+    ap₂ (λ (p q : ℕ). sets l₂ p (placesUp 3 q m)) here place
+    ∙ ap (λ (k : List ℕ). sets k (at + 2 * i + 1 + 1) (placesUp 3 (2 * i + 1 + 1) m)) e₂
+    ∙ placesUp-step 3 l₁ (at + 2 * i + 1) (2 * i + 1) m
+    ∙ ap (λ (k : List ℕ). sets k (at + 2 * i + 1) (placesUp 3 (2 * i + 1) (m + 1))) e₁
+    ∙ placesUp-step 3 l (at + 2 * i) (2 * i) (m + 1)
+    ∙ ap (λ (k : ℕ). sets l (at + 2 * i) (placesUp 3 (2 * i) k)) left
+
+abbrev Inv-loop : tie.InvT-loop
+Inv-loop cdt draw list₀ at x₀ i₀ list x i = Turn cdt (draw .high * 2 ^ 62 + draw .low) list₀ at list x i
+
+abbrev μ-loop : tie.MeasureT-loop
+μ-loop cdt draw list₀ at x₀ i₀ list x i = 10 - i
+
+loop-holds : tie.Need-loop-holds Inv-loop μ-loop
+unfolding atOrBelow
+loop-holds c =
+    let s = c .before .before .args in
+    record { turns = omega arith; small = omega arith; count = refl; same = refl; entries = ap (λ (n : ℕ). sets (s .list .now) n (placesUp 3 0 20)) (omega arith) }
+
+mul-place : tie.Need-mul-place Inv-loop μ-loop
+mul-place c = omega arith
+
+add-here : tie.Need-add-here Inv-loop μ-loop
+add-here c = omega arith
+
+listed-word-requires : tie.Need-listed-word-requires Inv-loop μ-loop
+listed-word-requires c κs = omega arith
+
+add-listed-word : tie.Need-add-listed-word Inv-loop μ-loop
+add-listed-word c = omega arith
+
+add-listed-word-2 : tie.Need-add-listed-word-2 Inv-loop μ-loop
+add-listed-word-2 c = omega arith
+
+listed-word-requires-2 : tie.Need-listed-word-requires-2 Inv-loop μ-loop
+listed-word-requires-2 c κs = omega arith
+
+at-or-below-requires : tie.Need-at-or-below-requires Inv-loop μ-loop
+at-or-below-requires c κs =
+    let s = c .before .before .before .before .before .before .before .before .before .before .before .before in
+    (rw (c .before .before .listed-word2 .ensures .0) (word-small (s .args .cdt .now) _ (omega arith) (s .pre .1)), s .pre .2)
+
+add-x : tie.Need-add-x Inv-loop μ-loop
+add-x c =
+    let b = c .before .before .before in
+    let a = b .before .before .before .before in
+    let s = a .before .before .before .before .before .before .args in
+    let t = a .before .before .before .loop in
+    omega (arith, c .at-or-below .ensures, bit-le (leb (a .listed-word .result * 2 ^ 62 + b .listed-word2 .result) (s .draw .high * 2 ^ 62 + s .draw .low)), t .inv .small, t .inv .turns)
+
+add-i : tie.Need-add-i Inv-loop μ-loop
+add-i c = omega arith
+
+loop-less : tie.Need-loop-less Inv-loop μ-loop
+loop-less c = omega arith
+
+-- one threshold more
+counted : (cdt : List ℕ) (d x i h l r : ℕ) → x ≡ atOrBelow cdt d i → h ≡ getD cdt (2 * i) 0 → l ≡ getD cdt (2 * i + 1) 0 → r ≡ bit (leb (h * 2 ^ 62 + l) d) → x + r ≡ atOrBelow cdt d (i + 1)
+counted cdt d x i h l r ex eh el er = ap₂ (λ (m n : ℕ). m + n) ex (er ∙ rw (eh, el)) ∙ sym (at-or-below-next cdt d i)
+
+loop-again : tie.Need-loop-again Inv-loop μ-loop
+loop-again c =
+    let b = c .before .before .before in
+    let a = b .before .before .before .before in
+    let s = a .before .before .before .before .before .before .args in
+    let t = a .before .before .before .loop in
+    let read = a .listed-word .ensures in
+    let read2 = b .listed-word2 .ensures in
+    let d = s .draw .high * 2 ^ 62 + s .draw .low in
+    let one = bit-le (leb (a .listed-word .result * 2 ^ 62 + b .listed-word2 .result) d) in
+    record {
+      turns = omega arith;
+      small = omega (arith, c .at-or-below .ensures, one, t .inv .small);
+      count = counted (s .cdt .now) d (t .x) (t .i) _ _ _ (t .inv .count) (read .0) (read2 .0) (c .at-or-below .ensures);
+      same = rw (read2 .1, length-set, read .1, length-set) (t .inv .same);
+      entries = two-more (t .list) _ _ (s .at) (t .i) (a .before .before .loop-test .taken) (read .1) (read2 .1) ∙ t .inv .entries;
+    }
+
+same-length : tie.Need-same-length Inv-loop μ-loop
+same-length c = c .before .loop .inv .same
+
+returns : tie.Need-returns Inv-loop μ-loop
+unfolding baseSample
+returns c =
+    let s = c .before .before .before .before .args in
+    let t = c .before .loop in
+    let all : t .i ≡ 10 = omega (arith, t .inv .turns, c .loop-test .left) in (
+      t .inv .count ∙ ap (atOrBelow (s .cdt .now) (s .draw .high * 2 ^ 62 + s .draw .low)) all,
+      omega (arith, t .inv .small, t .inv .turns),
+      placesUp-end 3 (t .list) (s .at + 2 * t .i) (2 * t .i) (20 - 2 * t .i) (omega arith) ∙ t .inv .entries,
+    )
+
+pub scan-spec : {M : Type 1} → statement M
+scan-spec =
+    tie.close
+    (tie.spec Inv-loop μ-loop loop-holds mul-place add-here listed-word-requires add-listed-word add-listed-word-2 listed-word-requires-2 at-or-below-requires add-x add-i loop-less loop-again same-length returns)
