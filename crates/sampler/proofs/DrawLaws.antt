@@ -16,7 +16,7 @@ use Rattle.read_list.specs.Entries.{entry, placesUp, placesDown}
 use Rattle.read_list.proofs.Laws.{sets-append}
 use Rattle.sampler.specs.Attempt.{sampleAt}
 use Rattle.sampler.specs.declared.Counts.{Counts}
-use Rattle.sampler.specs.Draw.{stillWanted, bitsFrom, accepted, samplesFrom, attemptEntries, entriesFrom, drawEntries, drawY, DrawLeft, drawn, Attempted}
+use Rattle.sampler.specs.Draw.{stillWanted, bitsFrom, accepted, samplesFrom, attemptEntries, entriesFrom, drawEntries, drawY, Sampled, sampledBy, Attempted}
 use Rattle.sampler.proofs.Thresholds.{bit-le}
 
 -- ** The bits that are left
@@ -153,8 +153,8 @@ module _ (f : ℕ → Bool) (g : ℕ → ℤ) (want limit : ℕ) (y₀ : List �
 
 module _ (n : ℕ) (cdt words : List ℕ) (bits : List Bool) (list list₁ list′ : List ℕ) (counts : Counts) (y : List ℤ)
     (first : list₁ ≡ set list 0 (entry 1 n)) (r : Attempted (sampleAt cdt words) bits list₁ counts y list′) (same : length y ≡ 2 * n) where
-  whole : (y′ : List ℤ) → y′ ≡ drawY cdt words (2 * n) bits → record { counts = counts; y = y′; list = list′ } ≡ drawn n cdt words bits list
-  unfolding drawn drawEntries
+  whole : (y′ : List ℤ) → y′ ≡ drawY cdt words (2 * n) bits → record { counts = counts; y = y′; list = list′ } ≡ sampledBy n cdt words bits list
+  unfolding sampledBy drawEntries
   whole y′ e =
       let more : 1 + length (entriesFrom 0 0 bits) ≡ suc (length (entriesFrom 0 0 bits)) = omega arith in
       rw (e, r .list-is, first) (ap (λ (c : Counts). record { counts = c; y = drawY cdt words (2 * n) bits; list = sets (set list 0 (entry 1 n)) 1 (entriesFrom 0 0 bits) }) (counts-are (r .attempts-are) (r .accepted-are) (r .entries-are ∙ more)))
@@ -162,13 +162,13 @@ module _ (n : ℕ) (cdt words : List ℕ) (bits : List Bool) (list list₁ list�
       counts-are : {a k e : ℕ} → counts .attempts ≡ a → counts .accepted ≡ k → counts .entries ≡ e → counts ≡ record { attempts = a; accepted = k; entries = e }
       counts-are ea ek ee = rw (← ea, ← ek, ← ee)
 
-  pub full : counts .accepted ≡ 2 * n → record { counts = counts; y = y; list = list′ } ≡ drawn n cdt words bits list
+  pub full : counts .accepted ≡ 2 * n → record { counts = counts; y = y; list = list′ } ≡ sampledBy n cdt words bits list
   unfolding drawY
   full h =
       let t = eq-eqb (accepted bits) (2 * n) (sym (r .accepted-are) ∙ h) in
       whole y (rw t (sym (take-all (counts .accepted) y (omega arith)) ∙ r .samples-are))
 
-  pub spent : (counts .accepted ≡ 2 * n → ⊥) → (y′ : List ℤ) → y′ ≡ replicate (length y) (pos 0) → record { counts = counts; y = y′; list = list′ } ≡ drawn n cdt words bits list
+  pub spent : (counts .accepted ≡ 2 * n → ⊥) → (y′ : List ℤ) → y′ ≡ replicate (length y) (pos 0) → record { counts = counts; y = y′; list = list′ } ≡ sampledBy n cdt words bits list
   unfolding drawY
   spent h y′ z =
       let t = ne-eqb (accepted bits) (2 * n) (λ e. h (r .accepted-are ∙ e)) in

@@ -67,14 +67,14 @@ drawEntries n bits = entry 1 n ∷ entriesFrom 0 0 bits
 -- ** A whole draw
 
 -- what a draw leaves: its counts, y and the list
-pub record DrawLeft : Type 0 where
+pub record Sampled : Type 0 where
   pub counts : Counts
   pub y : List ℤ
   pub list : List ℕ
 
 -- what a draw of degree n with these bits leaves: the entries stand from the start of the list on, and the rest of it is unchanged
-unfoldable pub drawn : (n : ℕ) (cdt words : List ℕ) (bits : List Bool) (list : List ℕ) → DrawLeft
-drawn n cdt words bits list = record {
+unfoldable pub sampledBy : (n : ℕ) (cdt words : List ℕ) (bits : List Bool) (list : List ℕ) → Sampled
+sampledBy n cdt words bits list = record {
   counts = record { attempts = length bits; accepted = accepted bits; entries = length (drawEntries n bits) };
   y = drawY cdt words (2 * n) bits;
   list = sets list 0 (drawEntries n bits);

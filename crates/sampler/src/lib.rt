@@ -10,7 +10,7 @@ ghost use Rattle.arithmetic.specs.Words.{bit};
 ghost use Rattle.read_list.specs.Entries.{placesUp};
 ghost use Rattle.exponential.specs.Exponential.{expScaled};
 ghost use Rattle.sampler.specs.Attempt.{wordsSmall, neverFalls, baseSample, size, exponent, sample, Tables, bitAt, sampleAt};
-ghost use Rattle.sampler.specs.Draw.{attemptEntries, drawBits, Attempted, DrawLeft, drawn};
+ghost use Rattle.sampler.specs.Draw.{attemptEntries, drawBits, Attempted, Sampled, sampledBy};
 use arithmetic::Wide;
 
 // Whether every word of a CDT table is below 2^62.
@@ -215,7 +215,7 @@ pub fn draw(
 ) -> Counts
     requires { ⌜ Tables (now cdt) (now table) reciprocal ⌝ }
     requires { ⌜ (degree ≤ 2 ^ 20) × (limit ≤ 2 ^ 20) × (4 * limit ≤ length (now words)) × (length (now y) ≡ 2 * degree) × (46 * limit + 2 ≤ length (now list)) ⌝ }
-    ensures { λ r. ⌜ record { counts = r; y = now (y .exit); list = now (list .exit) } ≡ drawn degree (now (cdt .entry)) (now (words .entry)) (drawBits (expScaled (now (table .entry)) reciprocal) (now (cdt .entry)) (now (words .entry)) limit (2 * degree)) (now (list .entry)) ⌝ }
+    ensures { λ r. ⌜ record { counts = r; y = now (y .exit); list = now (list .exit) } ≡ sampledBy degree (now (cdt .entry)) (now (words .entry)) (drawBits (expScaled (now (table .entry)) reciprocal) (now (cdt .entry)) (now (words .entry)) limit (2 * degree)) (now (list .entry)) ⌝ }
 {
     let want = 2 * degree;
     read_list::note(1, degree, list, 0);

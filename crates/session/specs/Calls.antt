@@ -1,13 +1,12 @@
 -- What each call of document 01 gives and leaves, for every input. Assumes nothing.
-use mathlib.Core.Bool.{Bool, false, cond}
+use mathlib.Core.Bool.{false, cond}
 use mathlib.Core.List.{List}
 use Prim.Native.Nat.{ℕ, _*_}
 use lib.Dec.{eqb}
 use lib.IntN.{ℤ}
 use lib.ListN.{length}
-use lib.Seq.{sets}
 use Rattle.exponential.specs.Exponential.{expWith, divisor}
-use Rattle.sampler.specs.Draw.{drawBits, accepted, isFull, drawY, drawEntries}
+use Rattle.sampler.specs.Draw.{drawBits, Sampled, sampledBy}
 use Rattle.session.specs.declared.Session.{Session}
 use Rattle.session.specs.declared.Opened.{Opened}
 use Rattle.session.specs.declared.Drawn.{Drawn}
@@ -35,22 +34,23 @@ drawRefused refusal s y list = record {
   list = list;
 }
 
--- served, as its accept bits have it; full sets drawn, and spent clears it
-unfoldable pub drawServed : (n : ℕ) (cdt words : List ℕ) (bits : List Bool) (list : List ℕ) → DrawLeft
-drawServed n cdt words bits list = record {
+-- served: the counts, y and the list are those of the sampling; full sets drawn, and spent clears it
+unfoldable pub drawServed : (n : ℕ) (sampled : Sampled) → DrawLeft
+drawServed n sampled = record {
   drawn = record {
-    answer = record { refusal = 0; attempts = length bits; accepted = accepted bits; entries = length (drawEntries n bits) };
-    session = record { degree = n; drawn = isFull (2 * n) bits };
+    answer = record { refusal = 0; attempts = sampled .counts .attempts; accepted = sampled .counts .accepted; entries = sampled .counts .entries };
+    session = record { degree = n; drawn = eqb (sampled .counts .accepted) (2 * n) };
   };
-  y = drawY cdt words (2 * n) bits;
-  list = sets list 0 (drawEntries n bits);
+  y = sampled .y;
+  list = sampled .list;
 }
 
+-- a draw, whose bits are by e(N) over the lent polynomial table, at deviation 215
 unfoldable pub drawLeft : (s : Session) (limit : ℕ) (cdt polynomial words : List ℕ) (y : List ℤ) (list : List ℕ) → DrawLeft
 drawLeft s limit cdt polynomial words y list = by (drawRefusal (s .degree) limit cdt polynomial (length words) (length y) (length list))
   where
     by : (refusal : ℕ) → DrawLeft
     by refusal =
         cond (eqb refusal 0)
-        (drawServed (s .degree) cdt words (drawBits (expWith polynomial divisor) cdt words limit (2 * s .degree)) list)
+        (drawServed (s .degree) (sampledBy (s .degree) cdt words (drawBits (expWith polynomial divisor) cdt words limit (2 * s .degree)) list))
         (drawRefused refusal s y list)

@@ -1,0 +1,54 @@
+-- What is known of a call that is not refused. Assumes nothing.
+use mathlib.Core.Path.{_≡_}
+use mathlib.Core.Bool.{true, _&&_}
+use mathlib.Core.List.{List}
+use Prim.Native.Nat.{ℕ, _+_, _*_, _≤_}
+use native.Mathlib.Omega.{arith}
+use lib.Dec.{leb, eqb}
+use lib.ListN.{length}
+use borrow.Author.Tests.{eqb-true, leb-true}
+use Rattle.checks.specs.Checks.{isDegree}
+use Rattle.checks.proofs.Laws.{both-true, degree-range, passed}
+use Rattle.exponential.specs.Exponential.{polynomial, isPolynomial}
+use Rattle.exponential.proofs.Table.{polynomial-of}
+use Rattle.sampler.specs.Attempt.{wordsSmall, neverFalls, Tables}
+use Rattle.session.specs.Refusals.{drawRefusal}
+
+-- a draw
+pub record DrawServed (n limit : ℕ) (cdt table : List ℕ) (words y list : ℕ) : Type 0 where
+  pub degree : isDegree n ≡ true
+  pub twenty : length cdt ≡ 20
+  pub small : wordsSmall cdt ≡ true
+  pub in-order : neverFalls cdt ≡ true
+  pub is-polynomial : table ≡ polynomial
+  pub both : y ≡ 2 * n
+  pub limit-low : 2 * n ≤ limit
+  pub limit-high : limit ≤ 32 * n
+  pub words-enough : 4 * limit ≤ words
+  pub list-enough : 46 * limit + 2 ≤ list
+
+pub draw-served : (n limit : ℕ) (cdt table : List ℕ) (words y list : ℕ) → drawRefusal n limit cdt table words y list ≡ 0 → DrawServed n limit cdt table words y list
+unfolding drawRefusal
+draw-served n limit cdt table words y list h =
+    let p1 = passed (isDegree n) 1 _ (omega arith) h in
+    let p2 = passed (eqb (length cdt) 20 && (eqb (length table) 21 && eqb y (2 * n))) 2 _ (omega arith) (p1 .1) in
+    let p3 = passed (wordsSmall cdt && neverFalls cdt) 3 _ (omega arith) (p2 .1) in
+    let p4 = passed (isPolynomial table) 4 _ (omega arith) (p3 .1) in
+    let p5 = passed (leb (2 * n) limit && leb limit (32 * n)) 5 _ (omega arith) (p4 .1) in
+    let p7 = passed (leb (4 * limit) words) 7 _ (omega arith) (p5 .1) in
+    let p8 = passed (leb (46 * limit + 2) list) 8 _ (omega arith) (p7 .1) in
+    let sizes = both-true (eqb (length cdt) 20) _ (p2 .0) in
+    let cdts = both-true (wordsSmall cdt) _ (p3 .0) in
+    let limits = both-true (leb (2 * n) limit) _ (p5 .0) in
+    record {
+      degree = p1 .0;
+      twenty = eqb-true (length cdt) 20 (sizes .0);
+      small = cdts .0;
+      in-order = cdts .1;
+      is-polynomial = polynomial-of table (p4 .0);
+      both = eqb-true y (2 * n) (both-true (eqb (length table) 21) _ (sizes .1) .1);
+      limit-low = leb-true (2 * n) limit (limits .0);
+      limit-high = leb-true limit (32 * n) (limits .1);
+      words-enough = leb-true (4 * limit) words (p7 .0);
+      list-enough = leb-true (46 * limit + 2) list (p8 .0);
+    }
