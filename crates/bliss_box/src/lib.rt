@@ -1,6 +1,44 @@
-// What a C host links.
+// What a C host links. A slice is a pointer and then a length.
 ghost use mathlib.Core.Path.{_≡_};
+ghost use lib.ListN.{length};
+ghost use Rattle.read_list.specs.Entries.{filledPart};
 ghost use Rattle.exponential.specs.Exponential.{expOrRefusal};
+ghost use Rattle.session.specs.Calls.{opened, DrawLeft, drawLeft};
+use session::Drawn;
+use session::Opened;
+use session::Session;
+
+// Opens a session of degree n.
+#[no_mangle]
+pub extern "C" fn bliss_open(n: usize) -> Opened
+    ensures { λ r. ⌜ r ≡ opened n ⌝ }
+{
+    Session::open(n)
+}
+
+// Draws 2n samples into y within a limit of attempts. The reads are listed from the start of the list on.
+#[no_mangle]
+pub extern "C" fn bliss_draw(
+    session: Session,
+    limit: usize,
+    cdt: &[u64],
+    polynomial: &[u64],
+    words: &[u64],
+    y: &mut [i32],
+    list: &mut [u32],
+) -> Drawn
+    ensures { λ r. ⌜ record { drawn = r; y = now (y .exit); list = now (list .exit) } ≡ drawLeft session limit (now (cdt .entry)) (now (polynomial .entry)) (now (words .entry)) (now (y .entry)) (now (list .entry)) ⌝ }
+{
+    session.draw(limit, cdt, polynomial, words, y, list)
+}
+
+// The length of the filled part of a list, for a count. The part starts where the list starts.
+#[no_mangle]
+pub extern "C" fn bliss_filled(list: &[u32], count: usize) -> usize
+    ensures { λ r. ⌜ r ≡ length (filledPart (now (list .entry)) count) ⌝ }
+{
+    read_list::filled(list, count).len()
+}
 
 // The exponential by n alone: e(n), or 2^63 + 12 (refusal 12) where n is above 5,534,960.
 #[no_mangle]

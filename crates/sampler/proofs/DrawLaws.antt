@@ -14,10 +14,11 @@ use borrow.Author.Tests.{ltb-false, eq-eqb, ne-eqb}
 use Rattle.arithmetic.specs.Words.{bit}
 use Rattle.read_list.specs.Entries.{entry, placesUp, placesDown}
 use Rattle.read_list.proofs.Laws.{sets-append}
-use Rattle.sampler.specs.Attempt.{sampleAt}
+use Rattle.attempt.specs.Attempt.{sampleAt}
 use Rattle.sampler.specs.declared.Counts.{Counts}
-use Rattle.sampler.specs.Draw.{stillWanted, bitsFrom, accepted, samplesFrom, attemptEntries, entriesFrom, drawEntries, drawY, Sampled, sampledBy, Attempted}
-use Rattle.sampler.proofs.Thresholds.{bit-le}
+use Rattle.attempt.specs.Attempt.{attemptEntries}
+use Rattle.sampler.specs.Draw.{stillWanted, bitsFrom, accepted, samplesFrom, entriesFrom, drawEntries, drawY, Sampled, sampledBy, Attempted}
+use Rattle.base_sample.proofs.Thresholds.{bit-le}
 
 -- ** The bits that are left
 

@@ -1,3 +1,1 @@
-pub mod Thresholds
-pub mod AttemptLaws
 pub mod DrawLaws

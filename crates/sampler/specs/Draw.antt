@@ -8,9 +8,9 @@ use lib.ListN.{length, take, replicate}
 use lib.Seq.{sets}
 use lib.IntN.{ℤ, pos}
 use Rattle.arithmetic.specs.Words.{bit}
-use Rattle.read_list.specs.Entries.{entry, placesUp, placesDown}
+use Rattle.read_list.specs.Entries.{entry}
+use Rattle.attempt.specs.Attempt.{bitAt, sampleAt, attemptEntries}
 use Rattle.sampler.specs.declared.Counts.{Counts}
-use Rattle.sampler.specs.Attempt.{bitAt, sampleAt}
 
 -- ** The attempts made
 
@@ -50,10 +50,6 @@ unfoldable pub drawY : (cdt words : List ℕ) (want : ℕ) (bits : List Bool) �
 drawY cdt words want bits = cond (isFull want bits) (samplesFrom (sampleAt cdt words) 0 bits) (replicate want (pos 0))
 
 -- ** The read list
-
--- the entries of attempt t, with so many samples accepted before it
-unfoldable pub attemptEntries : (t before : ℕ) → List ℕ
-attemptEntries t before = placesUp 2 (4 * t) 4 ++ (placesUp 3 0 20 ++ (placesDown 4 21 ++ (entry 5 before ∷ [])))
 
 -- the entries of the attempts from t on, and the last one
 unfoldable pub entriesFrom : (t before : ℕ) (bits : List Bool) → List ℕ

@@ -11,7 +11,8 @@ use Rattle.checks.specs.Checks.{isDegree}
 use Rattle.checks.proofs.Laws.{both-true, degree-range, passed}
 use Rattle.exponential.specs.Exponential.{polynomial, isPolynomial}
 use Rattle.exponential.proofs.Table.{polynomial-of}
-use Rattle.sampler.specs.Attempt.{wordsSmall, neverFalls, Tables}
+use Rattle.base_sample.specs.BaseSample.{wordsSmall, neverFalls}
+use Rattle.attempt.specs.Attempt.{Tables}
 use Rattle.session.specs.Refusals.{drawRefusal}
 
 -- a draw

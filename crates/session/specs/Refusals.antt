@@ -6,7 +6,7 @@ use lib.Dec.{leb, eqb}
 use lib.ListN.{length}
 use Rattle.checks.specs.Checks.{isDegree, unless}
 use Rattle.exponential.specs.Exponential.{isPolynomial}
-use Rattle.sampler.specs.Attempt.{wordsSmall, neverFalls}
+use Rattle.base_sample.specs.BaseSample.{wordsSmall, neverFalls}
 
 -- opening
 unfoldable pub openRefusal : (n : ℕ) → ℕ

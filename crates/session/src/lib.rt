@@ -51,10 +51,10 @@ fn draw_refusal(
     if (cdt.len() != 20) | (polynomial.len() != 21) | (y != 2 * n) {
         return 2;
     }
-    if !sampler::words_small(cdt) {
+    if !base_sample::words_small(cdt) {
         return 3;
     }
-    if !sampler::never_falls(cdt) {
+    if !base_sample::never_falls(cdt) {
         return 3;
     }
     if !exponential::is_polynomial(polynomial) {

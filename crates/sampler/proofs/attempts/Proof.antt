@@ -7,9 +7,9 @@ use lib.ListN.{length, length-set}
 use borrow.Author.Tests.{ltb-true}
 use Rattle.checks.proofs.Laws.{both-true}
 use Rattle.exponential.specs.Exponential.{expScaled}
-use Rattle.sampler.specs.Attempt.{bitAt, sampleAt}
+use Rattle.attempt.specs.Attempt.{bitAt, sampleAt}
 use Rattle.sampler.specs.Draw.{drawBits}
-use Rattle.sampler.proofs.Thresholds.{bit-le}
+use Rattle.base_sample.proofs.Thresholds.{bit-le}
 use Rattle.sampler.proofs.DrawLaws.{Turn, start, more, end}
 use Rattle.sampler.proofs.attempts.Statement.{statement}
 use Rattle.sampler.proofs.attempts.Tie as tie

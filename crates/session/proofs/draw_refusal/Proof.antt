@@ -10,7 +10,7 @@ use borrow.Author.Tests.{not-true, not-false, eqb-true, leb-true, ltb-true, ltb-
 use Rattle.checks.specs.Checks.{isDegree, unless}
 use Rattle.checks.proofs.Laws.{both-true, degree-range}
 use Rattle.exponential.specs.Exponential.{isPolynomial}
-use Rattle.sampler.specs.Attempt.{wordsSmall, neverFalls}
+use Rattle.base_sample.specs.BaseSample.{wordsSmall, neverFalls}
 use Rattle.session.specs.Refusals.{drawRefusal}
 use Rattle.session.proofs.draw_refusal.Statement.{statement}
 use Rattle.session.proofs.draw_refusal.Tie as tie

@@ -1,4 +1,4 @@
--- `sampler::never_falls` meets its contract: the thresholds before i are at or below their next ones. Assumes nothing.
+-- `base_sample::never_falls` meets its contract: the thresholds before i are at or below their next ones. Assumes nothing.
 use native.Mathlib.Omega.{arith}
 use mathlib.Core.Path.{_≡_, sym, ap, _∙_}
 use mathlib.Core.Bool.{Bool, true, false}
@@ -10,10 +10,10 @@ use lib.ListN.{getD}
 use Rattle.arithmetic.specs.Words.{bit}
 use Rattle.checks.specs.Checks.{allBelow}
 use Rattle.checks.proofs.Laws.{all-none, all-more, all-broken, all-done}
-use Rattle.sampler.specs.Attempt.{threshold, neverFalls}
-use Rattle.sampler.proofs.Thresholds.{word-small, bit-zero, bit-not-zero}
-use Rattle.sampler.proofs.never_falls.Statement.{statement}
-use Rattle.sampler.proofs.never_falls.Tie as tie
+use Rattle.base_sample.specs.BaseSample.{threshold, neverFalls}
+use Rattle.base_sample.proofs.Thresholds.{word-small, bit-zero, bit-not-zero}
+use Rattle.base_sample.proofs.never_falls.Statement.{statement}
+use Rattle.base_sample.proofs.never_falls.Tie as tie
 
 abbrev rises : (cdt : List ℕ) (i : ℕ) → Bool
 rises cdt i = leb (threshold cdt i) (threshold cdt (suc i))

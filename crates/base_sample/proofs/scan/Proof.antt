@@ -1,4 +1,4 @@
--- `sampler::scan` meets its contract. The loop's invariant: x counts the thresholds before i, and the entries of the others, from the list as it
+-- `base_sample::scan` meets its contract. The loop's invariant: x counts the thresholds before i, and the entries of the others, from the list as it
 -- is, give the list. Assumes nothing.
 use mathlib.Core.Path.{_≡_, refl, sym, ap, ap₂, _∙_}
 use mathlib.Core.List.{List}
@@ -10,10 +10,10 @@ use lib.Seq.{sets}
 use Rattle.arithmetic.specs.Words.{bit}
 use Rattle.read_list.specs.Entries.{entry, placesUp}
 use Rattle.read_list.proofs.Laws.{placesUp-step, placesUp-end}
-use Rattle.sampler.specs.Attempt.{threshold, atOrBelow, baseSample}
-use Rattle.sampler.proofs.Thresholds.{word-small, bit-le, at-or-below-next}
-use Rattle.sampler.proofs.scan.Statement.{statement}
-use Rattle.sampler.proofs.scan.Tie as tie
+use Rattle.base_sample.specs.BaseSample.{threshold, atOrBelow, baseSample}
+use Rattle.base_sample.proofs.Thresholds.{word-small, bit-le, at-or-below-next}
+use Rattle.base_sample.proofs.scan.Statement.{statement}
+use Rattle.base_sample.proofs.scan.Tie as tie
 
 record Turn (cdt : List ℕ) (d : ℕ) (list₀ : List ℕ) (at : ℕ) (list : List ℕ) (x i : ℕ) : Type 0 where
   turns : i ≤ 10

@@ -1,4 +1,4 @@
--- `sampler::attempt_words` meets its contract. Assumes nothing.
+-- `attempt::attempt_words` meets its contract. Assumes nothing.
 use mathlib.Core.Path.{_≡_}
 use mathlib.Core.List.{List}
 use Prim.Native.Nat.{ℕ, suc, _+_}
@@ -7,8 +7,8 @@ use lib.ListN.{set}
 use lib.Seq.{sets}
 use Rattle.read_list.specs.Entries.{entry, placesUp}
 use borrow.Author.Needs.{needs}
-use Rattle.sampler.proofs.attempt_words.Statement.{statement}
-use Rattle.sampler.proofs.attempt_words.Tie as tie
+use Rattle.attempt.proofs.attempt_words.Statement.{statement}
+use Rattle.attempt.proofs.attempt_words.Tie as tie
 
 -- four entries, one after the other
 four : (l l₁ l₂ l₃ l₄ : List ℕ) (at place : ℕ) → l₁ ≡ set l at (entry 2 place) → l₂ ≡ set l₁ (at + 1) (entry 2 (place + 1)) → l₃ ≡ set l₂ (at + 2) (entry 2 (place + 2)) → l₄ ≡ set l₃ (at + 3) (entry 2 (place + 3))

@@ -1,12 +1,12 @@
--- `sampler::exponent_of` meets its contract. Assumes nothing.
+-- `attempt::exponent_of` meets its contract. Assumes nothing.
 use borrow.Author.Needs.{needs}
 use mathlib.Core.Path.{refl}
 use Prim.Native.Nat.{ℕ, _+_, _*_, _^_, _≤_, _<_}
 use native.Mathlib.Nat.{mul-le-mul}
 use native.Mathlib.Omega.{arith}
-use Rattle.sampler.specs.Attempt.{exponent}
-use Rattle.sampler.proofs.exponent_of.Statement.{statement}
-use Rattle.sampler.proofs.exponent_of.Tie as tie
+use Rattle.attempt.specs.Attempt.{exponent}
+use Rattle.attempt.proofs.exponent_of.Statement.{statement}
+use Rattle.attempt.proofs.exponent_of.Tie as tie
 
 at-most : (x b : ℕ) → x ≤ 10 → b < 2 ^ 8 → exponent x b ≤ 1370625
 at-most x b h g = mul-le-mul {n₁ = b} {m₁ = b + 512 * x} {n₂ = 255} {m₂ = 5375} (omega arith) (omega arith)

@@ -10,8 +10,9 @@ use lib.ListN.{set, getD}
 use lib.Seq.{sets}
 use Rattle.read_list.specs.Entries.{entry, placesUp, placesDown}
 use Rattle.read_list.proofs.Laws.{sets-append}
-use Rattle.sampler.specs.Attempt.{baseSample, size, exponent, accepts, sample, drawAt, bitAt, sampleAt}
-use Rattle.sampler.specs.Draw.{attemptEntries}
+use Rattle.base_sample.specs.BaseSample.{baseSample}
+use Rattle.attempt.specs.Attempt.{size, exponent, accepts, sample, drawAt, bitAt, sampleAt}
+use Rattle.attempt.specs.Attempt.{attemptEntries}
 
 -- ** The bit and the sample
 

@@ -1,39 +1,14 @@
--- The base sample and the attempt of document 01. Assumes nothing.
+-- The attempt of document 01. Assumes nothing.
 use mathlib.Core.Path.{_≡_}
 use mathlib.Core.Bool.{Bool, true, not, cond, _&&_}
-use mathlib.Core.List.{List}
-use Prim.Native.Nat.{ℕ, zero, suc, _+_, _*_, _/_, _%_, _^_, _<_}
-use lib.Dec.{leb, ltb, eqb}
+use mathlib.Core.List.{List, [], _∷_, _++_}
+use Prim.Native.Nat.{ℕ, _+_, _*_, _/_, _%_, _^_, _<_}
+use lib.Dec.{ltb, eqb}
 use lib.ListN.{length, getD}
 use lib.IntN.{ℤ, pos, negℤ}
-use Rattle.arithmetic.specs.Words.{bit}
-use Rattle.checks.specs.Checks.{allBelow}
+use Rattle.read_list.specs.Entries.{entry, placesUp, placesDown}
 use Rattle.exponential.specs.Exponential.{polynomial}
-
--- ** The CDT table
-
--- threshold i, from 0: its high word, then its low word
-abbrev pub threshold : (cdt : List ℕ) (i : ℕ) → ℕ
-threshold cdt i = getD cdt (2 * i) 0 * 2 ^ 62 + getD cdt (2 * i + 1) 0
-
--- whether every word is below 2 ^ 62
-unfoldable pub wordsSmall : (cdt : List ℕ) → Bool
-wordsSmall cdt = allBelow (λ (i : ℕ). ltb (getD cdt i 0) (2 ^ 62)) 20
-
--- whether the thresholds never fall
-unfoldable pub neverFalls : (cdt : List ℕ) → Bool
-neverFalls cdt = allBelow (λ (i : ℕ). leb (threshold cdt i) (threshold cdt (suc i))) 9
-
--- ** Base sample
-
--- of the first count thresholds, the number at or below d
-unfoldable pub atOrBelow : (cdt : List ℕ) (d count : ℕ) → ℕ
-atOrBelow cdt d zero = 0
-atOrBelow cdt d (suc count) = atOrBelow cdt d count + bit (leb (threshold cdt count) d)
-
--- x: the number of thresholds at or below d
-unfoldable pub baseSample : (cdt : List ℕ) (d : ℕ) → ℕ
-baseSample cdt d = atOrBelow cdt d 10
+use Rattle.base_sample.specs.BaseSample.{wordsSmall, baseSample}
 
 -- ** Attempt, over x, the low bits b, the sign and u
 
@@ -84,3 +59,9 @@ bitAt e cdt words t = accepts e (baseSample cdt (drawAt words t)) (lowBitsAt wor
 -- the sample of attempt t
 unfoldable pub sampleAt : (cdt words : List ℕ) (t : ℕ) → ℤ
 sampleAt cdt words t = sample (baseSample cdt (drawAt words t)) (lowBitsAt words t) (negativeAt words t)
+
+-- ** The read list
+
+-- the entries of attempt t, with so many samples accepted before it
+unfoldable pub attemptEntries : (t before : ℕ) → List ℕ
+attemptEntries t before = placesUp 2 (4 * t) 4 ++ (placesUp 3 0 20 ++ (placesDown 4 21 ++ (entry 5 before ∷ [])))

@@ -1,4 +1,4 @@
--- `sampler::judged` meets its contract: the size and the sign are those of the third word. Assumes nothing.
+-- `attempt::judged` meets its contract: the size and the sign are those of the third word. Assumes nothing.
 use borrow.Author.Needs.{needs}
 use mathlib.Core.Path.{_≡_, sym, ap, ap₂, _∙_}
 use mathlib.Core.Bool.{not, _&&_}
@@ -12,9 +12,9 @@ use mir.Val.{toZ, ofZ, SFits}
 use mir.ValLaws.{toZ-pos}
 use Rattle.signed.specs.Signs.{sign}
 use Rattle.signed.proofs.Signs.{read-back, times-sign}
-use Rattle.sampler.specs.Attempt.{size, sample}
-use Rattle.sampler.proofs.judged.Statement.{statement}
-use Rattle.sampler.proofs.judged.Tie as tie
+use Rattle.attempt.specs.Attempt.{size, sample}
+use Rattle.attempt.proofs.judged.Statement.{statement}
+use Rattle.attempt.proofs.judged.Tie as tie
 
 mul-size : tie.Need-mul-size
 mul-size c = search needs

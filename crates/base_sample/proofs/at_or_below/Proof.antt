@@ -1,12 +1,12 @@
--- `sampler::at_or_below` meets its contract: a number is at or below another where that is not below it. Assumes nothing.
+-- `base_sample::at_or_below` meets its contract: a number is at or below another where that is not below it. Assumes nothing.
 use borrow.Author.Needs.{needs}
 use mathlib.Core.Path.{ap, _∙_}
 use Prim.Native.Nat.{ℕ, _-_}
 use lib.Dec.{ltb}
 use Rattle.arithmetic.specs.Words.{value}
-use Rattle.sampler.proofs.Thresholds.{at-or-below, bit-le}
-use Rattle.sampler.proofs.at_or_below.Statement.{statement}
-use Rattle.sampler.proofs.at_or_below.Tie as tie
+use Rattle.base_sample.proofs.Thresholds.{at-or-below, bit-le}
+use Rattle.base_sample.proofs.at_or_below.Statement.{statement}
+use Rattle.base_sample.proofs.at_or_below.Tie as tie
 
 less-requires : tie.Need-less-requires
 less-requires c κs = search needs

@@ -1,4 +1,4 @@
--- `sampler::words_small` meets its contract: the words before i are small. Assumes nothing.
+-- `base_sample::words_small` meets its contract: the words before i are small. Assumes nothing.
 use native.Mathlib.Omega.{arith}
 use mathlib.Core.Path.{_≡_, sym}
 use mathlib.Core.Bool.{true}
@@ -8,9 +8,9 @@ use lib.ListN.{getD}
 use borrow.Author.Tests.{le-ltb, lt-ltb}
 use Rattle.checks.specs.Checks.{allBelow}
 use Rattle.checks.proofs.Laws.{all-none, all-more, all-broken, all-done}
-use Rattle.sampler.specs.Attempt.{wordsSmall}
-use Rattle.sampler.proofs.words_small.Statement.{statement}
-use Rattle.sampler.proofs.words_small.Tie as tie
+use Rattle.base_sample.specs.BaseSample.{wordsSmall}
+use Rattle.base_sample.proofs.words_small.Statement.{statement}
+use Rattle.base_sample.proofs.words_small.Tie as tie
 
 abbrev Inv-loop : tie.InvT-loop
 Inv-loop cdt i₀ i = (i ≤ 20) × (allBelow (λ (j : ℕ). ltb (getD cdt j 0) (2 ^ 62)) i ≡ true)

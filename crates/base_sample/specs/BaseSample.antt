@@ -1,0 +1,33 @@
+-- The CDT table and the base sample of document 01. Assumes nothing.
+use mathlib.Core.Bool.{Bool}
+use mathlib.Core.List.{List}
+use Prim.Native.Nat.{ℕ, zero, suc, _+_, _*_, _^_}
+use lib.Dec.{leb, ltb}
+use lib.ListN.{getD}
+use Rattle.arithmetic.specs.Words.{bit}
+use Rattle.checks.specs.Checks.{allBelow}
+
+-- ** The CDT table
+
+-- threshold i, from 0: its high word, then its low word
+abbrev pub threshold : (cdt : List ℕ) (i : ℕ) → ℕ
+threshold cdt i = getD cdt (2 * i) 0 * 2 ^ 62 + getD cdt (2 * i + 1) 0
+
+-- whether every word is below 2 ^ 62
+unfoldable pub wordsSmall : (cdt : List ℕ) → Bool
+wordsSmall cdt = allBelow (λ (i : ℕ). ltb (getD cdt i 0) (2 ^ 62)) 20
+
+-- whether the thresholds never fall
+unfoldable pub neverFalls : (cdt : List ℕ) → Bool
+neverFalls cdt = allBelow (λ (i : ℕ). leb (threshold cdt i) (threshold cdt (suc i))) 9
+
+-- ** Base sample
+
+-- of the first count thresholds, the number at or below d
+unfoldable pub atOrBelow : (cdt : List ℕ) (d count : ℕ) → ℕ
+atOrBelow cdt d zero = 0
+atOrBelow cdt d (suc count) = atOrBelow cdt d count + bit (leb (threshold cdt count) d)
+
+-- x: the number of thresholds at or below d
+unfoldable pub baseSample : (cdt : List ℕ) (d : ℕ) → ℕ
+baseSample cdt d = atOrBelow cdt d 10

@@ -1,0 +1,80 @@
+// The CDT table and the base sample of document 01. The scan does not branch on the draw.
+ghost use mathlib.Core.Path.{_≡_};
+ghost use mathlib.Core.Bool.{true};
+ghost use Prim.Native.Nat.{_+_, _*_, _^_, _≤_, _<_};
+ghost use lib.Dec.{leb};
+ghost use lib.ListN.{length, getD};
+ghost use lib.Seq.{sets};
+ghost use Rattle.arithmetic.specs.Words.{bit};
+ghost use Rattle.read_list.specs.Entries.{placesUp};
+ghost use Rattle.base_sample.specs.BaseSample.{wordsSmall, neverFalls, baseSample};
+use arithmetic::Wide;
+
+// Whether every word of a CDT table is below 2^62.
+pub fn words_small(cdt: &[u64]) -> bool
+    requires { ⌜ length (now cdt) ≡ 20 ⌝ }
+    ensures { λ r. ⌜ r ≡ wordsSmall (now (cdt .entry)) ⌝ }
+{
+    let mut i: usize = 0;
+    while i < 20 {
+        if 0x4000_0000_0000_0000 <= cdt[i] {
+            return false;
+        }
+        i += 1;
+    }
+    true
+}
+
+// Whether the thresholds of a CDT table of small words never fall.
+pub fn never_falls(cdt: &[u64]) -> bool
+    requires { ⌜ (length (now cdt) ≡ 20) × (wordsSmall (now cdt) ≡ true) ⌝ }
+    ensures { λ r. ⌜ r ≡ neverFalls (now (cdt .entry)) ⌝ }
+{
+    let mut i: usize = 0;
+    while i < 9 {
+        let here = threshold_at(cdt, i);
+        let next = threshold_at(cdt, i + 1);
+        if at_or_below(here, next) == 0 {
+            return false;
+        }
+        i += 1;
+    }
+    true
+}
+
+// Threshold i of a CDT table.
+fn threshold_at(cdt: &[u64], i: usize) -> Wide
+    requires { ⌜ (length (now cdt) ≡ 20) × (i < 10) ⌝ }
+    ensures { λ r. ⌜ (r .high ≡ getD (now (cdt .entry)) (2 * i) 0) × (r .low ≡ getD (now (cdt .entry)) (2 * i + 1) 0) ⌝ }
+{
+    Wide {
+        high: cdt[2 * i],
+        low: cdt[2 * i + 1],
+    }
+}
+
+// 1 where the number a is at or below b, else 0: each has a low part below 2^62.
+fn at_or_below(a: Wide, b: Wide) -> u64
+    requires { ⌜ (a .low < 2 ^ 62) × (b .low < 2 ^ 62) ⌝ }
+    ensures { λ r. ⌜ r ≡ bit (leb (a .high * 2 ^ 62 + a .low) (b .high * 2 ^ 62 + b .low)) ⌝ }
+{
+    1 - arithmetic::less(b, a)
+}
+
+// The base sample of a draw. All twenty words are read, in order, and listed from the index `at` of a list on.
+pub fn scan(cdt: &[u64], draw: Wide, list: &mut [u32], at: usize) -> u64
+    requires { ⌜ (length (now cdt) ≡ 20) × (wordsSmall (now cdt) ≡ true) × (draw .low < 2 ^ 62) × (at + 20 ≤ length (now list)) ⌝ }
+    ensures { λ r. ⌜ (r ≡ baseSample (now (cdt .entry)) (draw .high * 2 ^ 62 + draw .low)) × (r ≤ 10) × (now (list .exit) ≡ sets (now (list .entry)) at (placesUp 3 0 20)) ⌝ }
+{
+    let mut x: u64 = 0;
+    let mut i: usize = 0;
+    while i < 10 {
+        let place = 2 * i;
+        let here = at + place;
+        let high = read_list::listed_word(cdt, 3, place, list, here);
+        let low = read_list::listed_word(cdt, 3, place + 1, list, here + 1);
+        x += at_or_below(Wide { high, low }, draw);
+        i += 1;
+    }
+    x
+}
