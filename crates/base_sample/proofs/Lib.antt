@@ -1,1 +1,2 @@
 pub mod Thresholds
+pub mod BaseSampleLaws

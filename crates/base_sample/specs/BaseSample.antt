@@ -1,7 +1,9 @@
 -- The CDT table and the base sample of document 01. Assumes nothing.
-use mathlib.Core.Bool.{Bool}
+use mathlib.Core.Path.{_≡_}
+use mathlib.Core.Bool.{Bool, true}
 use mathlib.Core.List.{List}
-use Prim.Native.Nat.{ℕ, zero, suc, _+_, _*_, _^_}
+use mathlib.Core.Logic.{_↔_}
+use Prim.Native.Nat.{ℕ, zero, suc, _+_, _*_, _^_, _≤_, _<_}
 use lib.Dec.{leb, ltb}
 use lib.ListN.{getD}
 use Rattle.arithmetic.specs.Words.{bit}
@@ -31,3 +33,19 @@ atOrBelow cdt d (suc count) = atOrBelow cdt d count + bit (leb (threshold cdt co
 -- x: the number of thresholds at or below d
 unfoldable pub baseSample : (cdt : List ℕ) (d : ℕ) → ℕ
 baseSample cdt d = atOrBelow cdt d 10
+
+-- ** What follows
+
+-- of the first count thresholds, d is at or above just x: the first x
+pub record AtJust (cdt : List ℕ) (d count x : ℕ) : Type 0 where
+  pub among : x ≤ count
+  pub at-or-above : (i : ℕ) → i < x → threshold cdt i ≤ d
+  pub below : (i : ℕ) → x ≤ i → i < count → d < threshold cdt i
+
+-- where the thresholds never fall, the base sample is x exactly when d is at or above just x thresholds
+abbrev pub BaseSampleExactly : Type 0
+BaseSampleExactly = (cdt : List ℕ) (d x : ℕ) → neverFalls cdt ≡ true → (baseSample cdt d ≡ x) ↔ AtJust cdt d 10 x
+
+-- the base sample never falls as d rises
+abbrev pub BaseSampleRises : Type 0
+BaseSampleRises = (cdt : List ℕ) (d d′ : ℕ) → d ≤ d′ → baseSample cdt d ≤ baseSample cdt d′

@@ -14,10 +14,10 @@ use borrow.Author.Tests.{ltb-false, eq-eqb, ne-eqb}
 use Rattle.arithmetic.specs.Words.{bit}
 use Rattle.read_list.specs.Entries.{entry, placesUp, placesDown}
 use Rattle.read_list.proofs.Laws.{sets-append}
-use Rattle.attempt.specs.Attempt.{sampleAt}
+use Rattle.attempt.specs.Attempt.{bitAt, sampleAt}
 use Rattle.sampler.specs.declared.Counts.{Counts}
 use Rattle.attempt.specs.Attempt.{attemptEntries}
-use Rattle.sampler.specs.Draw.{stillWanted, bitsFrom, accepted, samplesFrom, entriesFrom, drawEntries, drawY, Sampled, sampledBy, Attempted}
+use Rattle.sampler.specs.Draw.{stillWanted, bitsFrom, accepted, samplesFrom, entriesFrom, drawEntries, drawY, drawBits, Sampled, sampledBy, Attempted, DrawEntriesAtMost}
 use Rattle.base_sample.proofs.Thresholds.{bit-le}
 
 -- ** The bits that are left
@@ -82,6 +82,19 @@ length-entries t before [] = omega arith
 length-entries t before (b ∷ bits) =
     let e = length-append (attemptEntries t before) (entriesFrom (suc t) (before + bit b) bits) in
     omega (arith, e, length-attempt t before, length-entries (suc t) (before + bit b) bits)
+
+-- no more attempts than are allowed
+bits-at-most : (f : ℕ → Bool) (t left wanted : ℕ) → length (bitsFrom f t left wanted) ≤ left
+unfolding bitsFrom
+bits-at-most f t zero wanted = omega arith
+bits-at-most f t (suc left) zero = omega arith
+bits-at-most f t (suc left) (suc wanted) = omega (arith, bits-at-most f (suc t) left (stillWanted (f t) wanted))
+
+pub draw-entries-at-most : DrawEntriesAtMost
+unfolding drawEntries drawBits
+draw-entries-at-most e cdt words n limit want =
+    let bits = bitsFrom (bitAt e cdt words) 0 limit want in
+    omega (arith, bits-at-most (bitAt e cdt words) 0 limit want, length-entries 0 0 bits)
 
 -- ** The loop
 

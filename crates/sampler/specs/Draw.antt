@@ -2,7 +2,7 @@
 use mathlib.Core.Path.{_≡_}
 use mathlib.Core.Bool.{Bool, true, false, cond}
 use mathlib.Core.List.{List, [], _∷_, _++_}
-use Prim.Native.Nat.{ℕ, zero, suc, _+_, _*_}
+use Prim.Native.Nat.{ℕ, zero, suc, _+_, _*_, _≤_}
 use lib.Dec.{eqb}
 use lib.ListN.{length, take, replicate}
 use lib.Seq.{sets}
@@ -83,3 +83,9 @@ pub record Attempted (sampleOf : ℕ → ℤ) (bits : List Bool) (before : List 
   pub entries-are : counts .entries ≡ 1 + length (entriesFrom 0 0 bits)
   pub samples-are : take (counts .accepted) y ≡ samplesFrom sampleOf 0 bits
   pub list-is : list ≡ sets before 1 (entriesFrom 0 0 bits)
+
+-- ** What follows
+
+-- a draw lists at most 46L + 2 entries
+abbrev pub DrawEntriesAtMost : Type 0
+DrawEntriesAtMost = (e : ℕ → ℕ) (cdt words : List ℕ) (n limit want : ℕ) → length (drawEntries n (drawBits e cdt words limit want)) ≤ 46 * limit + 2

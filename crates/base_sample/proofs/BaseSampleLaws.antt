@@ -1,0 +1,115 @@
+-- The base sample is x exactly when d is at or above just x thresholds, and never falls as d rises. Assumes nothing.
+use mathlib.Core.Path.{_≡_, refl, sym, subst}
+use mathlib.Core.Bool.{Bool, true, false}
+use mathlib.Core.List.{List}
+use Prim.Native.Nat.{ℕ, zero, suc, _+_, _-_, _≤_, _<_}
+use native.Mathlib.Nat.{le-trans, le-refl, lt-of-lt-of-le, lt-irrefl, le-antisymm, add-le-add, not-suc-le-zero, le-of-suc-le-suc, add-zero, add-suc}
+use native.Mathlib.Numerals.{add-one}
+use native.Mathlib.Omega.{arith}
+use lib.Dec.{leb, ltb}
+use borrow.Author.Tests.{leb-true, leb-false, le-leb, ltb-true, ltb-false}
+use Rattle.arithmetic.specs.Words.{bit}
+use Rattle.checks.proofs.Laws.{all-at}
+use Rattle.base_sample.specs.BaseSample.{threshold, neverFalls, atOrBelow, baseSample, AtJust, BaseSampleExactly, BaseSampleRises}
+
+-- ** Thresholds that never fall
+
+rises : (cdt : List ℕ) → neverFalls cdt ≡ true → (i : ℕ) → i < 9 → threshold cdt i ≤ threshold cdt (suc i)
+unfolding neverFalls
+rises cdt e i h = leb-true (threshold cdt i) (threshold cdt (suc i)) (all-at (λ (j : ℕ). leb (threshold cdt j) (threshold cdt (suc j))) i 9 h e)
+
+in-order : (cdt : List ℕ) → neverFalls cdt ≡ true → (i more : ℕ) → i + more < 10 → threshold cdt i ≤ threshold cdt (i + more)
+in-order cdt e i zero h = rw (add-zero i) (le-refl (threshold cdt i))
+in-order cdt e i (suc more) h = rw (add-suc i more) (le-trans (in-order cdt e i more (omega arith)) (rises cdt e (i + more) (omega arith)))
+
+-- ** The count, threshold by threshold
+
+module _ (cdt : List ℕ) (d : ℕ) where
+  none : AtJust cdt d 0 0
+  none = record { among = omega arith; at-or-above = λ i h. absurd (not-suc-le-zero h); below = λ i h g. absurd (not-suc-le-zero g) }
+
+  one-more : neverFalls cdt ≡ true → (count x : ℕ) → count < 10 → AtJust cdt d count x → AtJust cdt d (suc count) (x + bit (leb (threshold cdt count) d))
+  one-more e count x h r = by (leb (threshold cdt count) d) refl
+    where
+      up-to-here : (i : ℕ) → i ≤ count → threshold cdt i ≤ threshold cdt count
+      up-to-here i g =
+          let k : i + (count - i) ≡ count = omega arith in
+          ap-le k (in-order cdt e i (count - i) (omega (arith, k)))
+        where
+          ap-le : {j : ℕ} → j ≡ count → threshold cdt i ≤ threshold cdt j → threshold cdt i ≤ threshold cdt count
+          ap-le f l = subst (λ (j : ℕ). threshold cdt i ≤ threshold cdt j) f l
+
+      -- where d is at or above this threshold, it is below none before
+      reaches : threshold cdt count ≤ d → count ≤ x
+      reaches g = or-below (ltb x count) refl
+        where
+          or-below : (t : Bool) → ltb x count ≡ t → count ≤ x
+          or-below true f =
+              let k = ltb-true x count f in
+              absurd (lt-irrefl d (lt-of-lt-of-le (r .below x (le-refl x) k) (le-trans (up-to-here x (omega arith)) g)))
+          or-below false f = ltb-false x count f
+
+      last : d < threshold cdt count → (i : ℕ) → x ≤ i → i < suc count → d < threshold cdt i
+      last here i g k = or-before (ltb i count) refl
+        where
+          or-before : (t : Bool) → ltb i count ≡ t → d < threshold cdt i
+          or-before true f = r .below i g (ltb-true i count f)
+          or-before false f =
+              let l : i ≡ count = le-antisymm (le-of-suc-le-suc k) (ltb-false i count f) in
+              subst (λ (j : ℕ). d < threshold cdt j) (sym l) here
+
+      by : (t : Bool) → leb (threshold cdt count) d ≡ t → AtJust cdt d (suc count) (x + bit t)
+      by true f =
+          let here = leb-true (threshold cdt count) d f in
+          let all : x ≡ count = le-antisymm (r .among) (reaches here) in
+          record {
+            among = omega (arith, r .among);
+            at-or-above = λ i g. le-trans (up-to-here i (omega (arith, g, r .among))) here;
+            below = λ i g k. absurd (omega (arith, all, g, k));
+          }
+      by false f =
+          let here = leb-false (threshold cdt count) d f in
+          record {
+            among = omega (arith, r .among);
+            at-or-above = λ i g. r .at-or-above i (omega (arith, g));
+            below = λ i g k. last here i (omega (arith, g)) k;
+          }
+
+  counted : neverFalls cdt ≡ true → (count : ℕ) → count ≤ 10 → AtJust cdt d count (atOrBelow cdt d count)
+  unfolding atOrBelow
+  counted e zero h = none
+  counted e (suc count) h = one-more e count (atOrBelow cdt d count) h (counted e count (omega arith))
+
+  -- no two numbers fit
+  just-one : (x x′ : ℕ) → AtJust cdt d 10 x → AtJust cdt d 10 x′ → x ≤ x′
+  just-one x x′ r r′ = by (ltb x′ x) refl
+    where
+      by : (t : Bool) → ltb x′ x ≡ t → x ≤ x′
+      by true f =
+          let h = ltb-true x′ x f in
+          absurd (lt-irrefl d (lt-of-lt-of-le (r′ .below x′ (le-refl x′) (omega (arith, r .among))) (r .at-or-above x′ h)))
+      by false f = ltb-false x′ x f
+
+pub base-sample-exactly : BaseSampleExactly
+unfolding baseSample
+base-sample-exactly cdt d x e =
+    let r = counted cdt d e 10 (le-refl 10) in
+    ((λ h. subst (AtJust cdt d 10) h r), (λ s. le-antisymm (just-one cdt d _ x r s) (just-one cdt d x _ s r)))
+
+-- ** As d rises
+
+bit-rises : (a d d′ : ℕ) → d ≤ d′ → bit (leb a d) ≤ bit (leb a d′)
+bit-rises a d d′ h = by (leb a d) refl
+  where
+    by : (t : Bool) → leb a d ≡ t → bit t ≤ bit (leb a d′)
+    by true e = rw (le-leb a d′ (le-trans (leb-true a d e) h)) (le-refl 1)
+    by false e = omega arith
+
+count-rises : (cdt : List ℕ) (d d′ count : ℕ) → d ≤ d′ → atOrBelow cdt d count ≤ atOrBelow cdt d′ count
+unfolding atOrBelow
+count-rises cdt d d′ zero h = le-refl 0
+count-rises cdt d d′ (suc count) h = add-le-add (count-rises cdt d d′ count h) (bit-rises (threshold cdt count) d d′ h)
+
+pub base-sample-rises : BaseSampleRises
+unfolding baseSample
+base-sample-rises cdt d d′ h = count-rises cdt d d′ 10 h
