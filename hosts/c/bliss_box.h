@@ -1,13 +1,102 @@
-/* The BLISS-I sampling box, for a C host. Link target/staticlib/libbliss_box.a, which `rt staticlib bliss_box` proves
- * and writes. A call takes any argument, keeps no state, uses no heap and always returns. */
+/* The BLISS-I sampling box, for a C host. Link target/staticlib/libbliss_box.a, which `rt staticlib bliss_box` proves and writes.
+ *
+ * A call takes any numbers and any contents, keeps no state of its own, uses no heap and always returns. A call that can't be
+ * served gives the number of the first refusal that applies, and leaves all memory and the session as they were.
+ *
+ * What the box can't see, the host must guarantee: each pointer is aligned and valid for its length, for writing too where it
+ * is not const; a buffer that is written overlaps no other; `drawn` is 0 or 1. With a length of 0 the pointer is not used, but
+ * must not be null. */
 #ifndef BLISS_BOX_H
 #define BLISS_BOX_H
 
+#include <stdbool.h>
+#include <stddef.h>
 #include <stdint.h>
 
 #ifdef __cplusplus
 extern "C" {
 #endif
+
+/* Refusals. 0 is a call that is served. */
+enum {
+    BLISS_SERVED = 0,
+    BLISS_REFUSED_DEGREE = 1,      /* the degree is not a power of two from 4 to 1024 */
+    BLISS_REFUSED_LENGTHS = 2,     /* the CDT is not 20 words, the polynomial table not 21, or y not 2n */
+    BLISS_REFUSED_CDT = 3,         /* a CDT word is 2^62 or more, or a threshold is below the one before */
+    BLISS_REFUSED_POLYNOMIAL = 4,  /* an entry of the polynomial table is not the whole part of 2^62 / j! */
+    BLISS_REFUSED_LIMIT = 5,       /* the limit is outside 2n to 32n */
+    BLISS_REFUSED_WORDS = 7,       /* there are fewer than 4 words for each attempt */
+    BLISS_REFUSED_LIST = 8         /* the list is shorter than 46 entries for each attempt and 2 more */
+};
+
+/* A degree, and whether y is drawn. Each call takes a session and hands back the next one: use that one from then on. */
+typedef struct {
+    size_t degree;
+    bool drawn;
+} bliss_session;
+
+typedef struct {
+    uint32_t refusal;
+    bliss_session session;
+} bliss_opened;
+
+/* What a draw counted; all 0 where it is refused. */
+typedef struct {
+    uint32_t refusal;
+    size_t attempts;
+    size_t accepted; /* 2n if the draw is full, fewer if it is spent */
+    size_t entries;  /* written from the start of the list */
+} bliss_draw_answer;
+
+typedef struct {
+    bliss_draw_answer answer;
+    bliss_session session;
+} bliss_drawn;
+
+/* The layout that the archive has, on x86-64. */
+#ifdef __cplusplus
+#define BLISS_LAYOUT(claim) static_assert(claim, "a layout that the archive does not have")
+#else
+#define BLISS_LAYOUT(claim) _Static_assert(claim, "a layout that the archive does not have")
+#endif
+BLISS_LAYOUT(sizeof(bliss_session) == 16 && offsetof(bliss_session, drawn) == 8);
+BLISS_LAYOUT(sizeof(bliss_opened) == 24 && offsetof(bliss_opened, session) == 8);
+BLISS_LAYOUT(sizeof(bliss_draw_answer) == 32 && offsetof(bliss_draw_answer, attempts) == 8);
+BLISS_LAYOUT(offsetof(bliss_draw_answer, accepted) == 16 && offsetof(bliss_draw_answer, entries) == 24);
+BLISS_LAYOUT(sizeof(bliss_drawn) == 48 && offsetof(bliss_drawn, session) == 32);
+#undef BLISS_LAYOUT
+
+/* The lengths that a draw asks for, at degree n and with a limit of attempts. */
+#define BLISS_CDT_WORDS 20
+#define BLISS_POLYNOMIAL_WORDS 21
+#define BLISS_SAMPLES(n) (2 * (size_t)(n))
+#define BLISS_DRAW_WORDS(limit) (4 * (size_t)(limit))
+#define BLISS_DRAW_ENTRIES(limit) (46 * (size_t)(limit) + 2)
+
+/* Opens a session of degree n.
+ * Gives: a session with nothing drawn; refused, one of degree 0.
+ * Refuses: 1. */
+bliss_opened bliss_open(size_t n);
+
+/* Draws 2n samples of Gaussian noise into y.
+ * Needs:   y and list writable, and apart from each other and from the rest.
+ * Gives:   full, as soon as 2n samples are accepted: y has them in the order of acceptance, and the next session is drawn; or
+ *          spent, after `limit` attempts with fewer: y is all zero, and the next session is not drawn. Each read of cdt,
+ *          polynomial and words is listed from the start of the list; bliss_filled gives the filled part.
+ * Refuses: 1, 2, 3, 4, 5, 7, 8, in this order.
+ * Leaves:  the list behind the entries, the tables and the words; refused, everything.
+ * Time:    no jump and no address hangs on a word or a sample, except by the accept bits of the attempts, which the list shows.
+ * The words must be fresh random words, used for this draw alone. */
+bliss_drawn bliss_draw(bliss_session session, size_t limit,                  //
+                       const uint64_t *cdt, size_t cdt_length,               //
+                       const uint64_t *polynomial, size_t polynomial_length, //
+                       const uint64_t *words, size_t words_length,           //
+                       int32_t *y, size_t y_length,                          //
+                       uint32_t *list, size_t list_length);
+
+/* The length of the filled part of a list, for the count of entries of an answer. The part starts where the list starts.
+ * Gives: the count; 0 where it is over the list's length. */
+size_t bliss_filled(const uint32_t *list, size_t list_length, size_t count);
 
 /* The largest n that bliss_exponential serves. */
 #define BLISS_EXPONENTIAL_LIMIT UINT64_C(5534960)
@@ -16,11 +105,38 @@ extern "C" {
 #define BLISS_EXPONENTIAL_REFUSED ((UINT64_C(1) << 63) + 12)
 
 /* e(n), near exp(-n / 92450), as a whole number of units of 2^-62: 0 to 2^62.
- * Needs: nothing.
- * Gives: e(n) for n from 0 to BLISS_EXPONENTIAL_LIMIT, within 1024 units of the 64th power of the sum over j = 0..20 of
- *        (-n / 5916800)^j / j!; BLISS_EXPONENTIAL_REFUSED for any other n.
- * Time:  apart from the test of the limit, no jump and no address hangs on n. */
+ * Gives:   e(n) for n from 0 to BLISS_EXPONENTIAL_LIMIT, within 1024 units of the 64th power of the sum over j = 0..20 of
+ *          (-n / 5916800)^j / j!.
+ * Refuses: any other n, by BLISS_EXPONENTIAL_REFUSED.
+ * Time:    apart from the test of the limit, no jump and no address hangs on n. */
 uint64_t bliss_exponential(uint64_t n);
+
+/* The polynomial table: entry j is the whole part of 2^62 / j!. */
+#define BLISS_POLYNOMIAL                                                                                                  \
+    {                                                                                                                     \
+        UINT64_C(4611686018427387904), UINT64_C(4611686018427387904), UINT64_C(2305843009213693952),                      \
+            UINT64_C(768614336404564650), UINT64_C(192153584101141162), UINT64_C(38430716820228232),                      \
+            UINT64_C(6405119470038038), UINT64_C(915017067148291), UINT64_C(114377133393536), UINT64_C(12708570377059),   \
+            UINT64_C(1270857037705), UINT64_C(115532457973), UINT64_C(9627704831), UINT64_C(740592679),                   \
+            UINT64_C(52899477), UINT64_C(3526631), UINT64_C(220414), UINT64_C(12965), UINT64_C(720), UINT64_C(37),        \
+            UINT64_C(1)                                                                                                   \
+    }
+
+/* The CDT table for deviation 215: ten thresholds, each a high word and a low word. Threshold i is the nearest whole number to
+ * 2^124 times the chance that the base sample is below i, where j has the weight exp(-65536 j^2 / 92450), j = 0 to 10. */
+#define BLISS_CDT_215                                                             \
+    {                                                                             \
+        UINT64_C(2970318119077987601), UINT64_C(139537425007862173),              \
+            UINT64_C(4432293587828485953), UINT64_C(2218333992557025118),         \
+            UINT64_C(4606615286148199816), UINT64_C(2870311867292663647),         \
+            UINT64_C(4611650721831976652), UINT64_C(3044458817194566665),         \
+            UINT64_C(4611685958667561403), UINT64_C(456626370962175178),          \
+            UINT64_C(4611686018402853103), UINT64_C(3423392530604428891),         \
+            UINT64_C(4611686018427385463), UINT64_C(918063073876867824),          \
+            UINT64_C(4611686018427387903), UINT64_C(4340391528176902920),         \
+            UINT64_C(4611686018427387903), UINT64_C(4611684434372927295),         \
+            UINT64_C(4611686018427387903), UINT64_C(4611686018425147250)          \
+    }
 
 #ifdef __cplusplus
 }

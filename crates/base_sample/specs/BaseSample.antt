@@ -1,6 +1,6 @@
 -- The CDT table and the base sample of document 01. Assumes nothing.
 use mathlib.Core.Path.{_≡_}
-use mathlib.Core.Bool.{Bool, true}
+use mathlib.Core.Bool.{Bool, true, _&&_}
 use mathlib.Core.List.{List}
 use mathlib.Core.Logic.{_↔_}
 use Prim.Native.Nat.{ℕ, zero, suc, _+_, _*_, _^_, _≤_, _<_}
@@ -22,6 +22,10 @@ wordsSmall cdt = allBelow (λ (i : ℕ). ltb (getD cdt i 0) (2 ^ 62)) 20
 -- whether the thresholds never fall
 unfoldable pub neverFalls : (cdt : List ℕ) → Bool
 neverFalls cdt = allBelow (λ (i : ℕ). leb (threshold cdt i) (threshold cdt (suc i))) 9
+
+-- whether 20 words are a CDT table
+unfoldable pub isCdt : (table : List ℕ) → Bool
+isCdt table = wordsSmall table && neverFalls table
 
 -- ** Base sample
 

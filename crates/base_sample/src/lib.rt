@@ -7,11 +7,22 @@ ghost use lib.ListN.{length, getD};
 ghost use lib.Seq.{sets};
 ghost use Rattle.arithmetic.specs.Words.{bit};
 ghost use Rattle.read_list.specs.Entries.{placesUp};
-ghost use Rattle.base_sample.specs.BaseSample.{wordsSmall, neverFalls, baseSample};
+ghost use Rattle.base_sample.specs.BaseSample.{wordsSmall, neverFalls, isCdt, baseSample};
 use arithmetic::Wide;
 
+// Whether a lent table of 20 words is a CDT table.
+pub fn is_cdt(table: &[u64]) -> bool
+    requires { ⌜ length (now table) ≡ 20 ⌝ }
+    ensures { λ r. ⌜ r ≡ isCdt (now (table .entry)) ⌝ }
+{
+    if !words_small(table) {
+        return false;
+    }
+    never_falls(table)
+}
+
 // Whether every word of a CDT table is below 2^62.
-pub fn words_small(cdt: &[u64]) -> bool
+fn words_small(cdt: &[u64]) -> bool
     requires { ⌜ length (now cdt) ≡ 20 ⌝ }
     ensures { λ r. ⌜ r ≡ wordsSmall (now (cdt .entry)) ⌝ }
 {
@@ -26,7 +37,7 @@ pub fn words_small(cdt: &[u64]) -> bool
 }
 
 // Whether the thresholds of a CDT table of small words never fall.
-pub fn never_falls(cdt: &[u64]) -> bool
+fn never_falls(cdt: &[u64]) -> bool
     requires { ⌜ (length (now cdt) ≡ 20) × (wordsSmall (now cdt) ≡ true) ⌝ }
     ensures { λ r. ⌜ r ≡ neverFalls (now (cdt .entry)) ⌝ }
 {

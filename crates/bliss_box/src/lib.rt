@@ -3,7 +3,7 @@ ghost use mathlib.Core.Path.{_≡_};
 ghost use lib.ListN.{length};
 ghost use Rattle.read_list.specs.Entries.{filledPart};
 ghost use Rattle.exponential.specs.Exponential.{expOrRefusal};
-ghost use Rattle.session.specs.Calls.{opened, DrawLeft, drawLeft};
+ghost use Rattle.session.specs.Calls.{opened, drawLeft};
 use session::Drawn;
 use session::Opened;
 use session::Session;

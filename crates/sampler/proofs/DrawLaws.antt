@@ -6,7 +6,7 @@ use Prim.Native.Nat.{ℕ, zero, suc, _+_, _-_, _*_, _≤_, _<_}
 use native.Mathlib.Nat.{add-zero, sub-zero}
 use native.Mathlib.Numerals.{add-one}
 use native.Mathlib.Omega.{arith}
-use lib.Dec.{ltb, eqb}
+use lib.Dec.{ltb}
 use lib.IntN.{ℤ, pos}
 use lib.ListN.{length, set, take, replicate, length-append, length-set}
 use lib.Seq.{sets, length-sets, take-all, take-set-le, take-suc-set}
@@ -17,7 +17,7 @@ use Rattle.read_list.proofs.Laws.{sets-append}
 use Rattle.attempt.specs.Attempt.{bitAt, sampleAt}
 use Rattle.sampler.specs.declared.Counts.{Counts}
 use Rattle.attempt.specs.Attempt.{attemptEntries}
-use Rattle.sampler.specs.Draw.{stillWanted, bitsFrom, accepted, samplesFrom, entriesFrom, drawEntries, drawY, drawBits, Sampled, sampledBy, Attempted, DrawEntriesAtMost}
+use Rattle.sampler.specs.Draw.{stillWanted, bitsFrom, accepted, samplesFrom, entriesFrom, drawEntries, drawY, drawBits, sampledBy, Attempted, DrawEntriesAtMost}
 use Rattle.base_sample.proofs.Thresholds.{bit-le}
 
 -- ** The bits that are left

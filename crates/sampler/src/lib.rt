@@ -4,7 +4,7 @@ ghost use Prim.Native.Nat.{_+_, _*_, _^_, _≤_, _<_};
 ghost use lib.ListN.{length};
 ghost use Rattle.exponential.specs.Exponential.{expScaled};
 ghost use Rattle.attempt.specs.Attempt.{Tables, sampleAt};
-ghost use Rattle.sampler.specs.Draw.{drawBits, Attempted, Sampled, sampledBy};
+ghost use Rattle.sampler.specs.Draw.{drawBits, Attempted, sampledBy};
 
 // The counts of a draw: attempts made, samples accepted, entries listed.
 pub struct Counts {

@@ -9,7 +9,7 @@ use lib.Dec.{eqb}
 use lib.IntN.{ℤ}
 use lib.ListN.{length}
 use borrow.Author.Tests.{eq-eqb, ne-eqb, eqb-true, eqb-false}
-use Rattle.exponential.specs.Exponential.{expScaled, expWith, reciprocal, divisor}
+use Rattle.exponential.specs.Exponential.{expScaled, expWith, divisor}
 use Rattle.exponential.proofs.Table.{reciprocal-215}
 use Rattle.sampler.specs.Draw.{drawBits, Sampled, sampledBy}
 use Rattle.sampler.proofs.DrawLaws.{draw-entries-at-most}
@@ -17,7 +17,7 @@ use Rattle.session.specs.declared.Session.{Session}
 use Rattle.session.specs.Refusals.{drawRefusal}
 use Rattle.session.specs.Calls.{DrawLeft, drawRefused, drawServed, drawLeft}
 use Rattle.session.specs.CallLaws.{DrawCountsEntries, DrawKeepsDegree, RefusedDrawTouchesNothing}
-use Rattle.session.proofs.Served.{DrawServed, draw-served}
+use Rattle.session.proofs.Served.{draw-served}
 
 -- e(N) by R at deviation 215
 by-215 : (table : List ℕ) → expScaled table 3269134179596076729 ≡ expWith table divisor

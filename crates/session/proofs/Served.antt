@@ -8,11 +8,10 @@ use lib.Dec.{leb, eqb}
 use lib.ListN.{length}
 use borrow.Author.Tests.{eqb-true, leb-true}
 use Rattle.checks.specs.Checks.{isDegree}
-use Rattle.checks.proofs.Laws.{both-true, degree-range, passed}
+use Rattle.checks.proofs.Laws.{both-true, passed}
 use Rattle.exponential.specs.Exponential.{polynomial, isPolynomial}
 use Rattle.exponential.proofs.Table.{polynomial-of}
-use Rattle.base_sample.specs.BaseSample.{wordsSmall, neverFalls}
-use Rattle.attempt.specs.Attempt.{Tables}
+use Rattle.base_sample.specs.BaseSample.{wordsSmall, neverFalls, isCdt}
 use Rattle.session.specs.Refusals.{drawRefusal}
 
 -- a draw
@@ -29,17 +28,17 @@ pub record DrawServed (n limit : ℕ) (cdt table : List ℕ) (words y list : ℕ
   pub list-enough : 46 * limit + 2 ≤ list
 
 pub draw-served : (n limit : ℕ) (cdt table : List ℕ) (words y list : ℕ) → drawRefusal n limit cdt table words y list ≡ 0 → DrawServed n limit cdt table words y list
-unfolding drawRefusal
+unfolding drawRefusal isCdt
 draw-served n limit cdt table words y list h =
     let p1 = passed (isDegree n) 1 _ (omega arith) h in
     let p2 = passed (eqb (length cdt) 20 && (eqb (length table) 21 && eqb y (2 * n))) 2 _ (omega arith) (p1 .1) in
-    let p3 = passed (wordsSmall cdt && neverFalls cdt) 3 _ (omega arith) (p2 .1) in
+    let p3 = passed (isCdt cdt) 3 _ (omega arith) (p2 .1) in
     let p4 = passed (isPolynomial table) 4 _ (omega arith) (p3 .1) in
     let p5 = passed (leb (2 * n) limit && leb limit (32 * n)) 5 _ (omega arith) (p4 .1) in
     let p7 = passed (leb (4 * limit) words) 7 _ (omega arith) (p5 .1) in
     let p8 = passed (leb (46 * limit + 2) list) 8 _ (omega arith) (p7 .1) in
     let sizes = both-true (eqb (length cdt) 20) _ (p2 .0) in
-    let cdts = both-true (wordsSmall cdt) _ (p3 .0) in
+    let cdts = both-true (wordsSmall cdt) (neverFalls cdt) (p3 .0) in
     let limits = both-true (leb (2 * n) limit) _ (p5 .0) in
     record {
       degree = p1 .0;

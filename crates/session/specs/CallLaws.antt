@@ -5,7 +5,7 @@ use Prim.Native.Nat.{ℕ, _+_, _*_, _≤_}
 use lib.IntN.{ℤ}
 use lib.ListN.{length}
 use Rattle.session.specs.declared.Session.{Session}
-use Rattle.session.specs.Calls.{DrawLeft, drawRefused, drawLeft}
+use Rattle.session.specs.Calls.{drawRefused, drawLeft}
 
 -- a draw's count of entries is at most 46L + 2, and at most the length of its list
 abbrev pub DrawCountsEntries : Type 0

@@ -1,8 +1,7 @@
 // Sessions: a degree, and whether y is drawn. Each call takes the session by value, and hands back the next one with its answer.
 ghost use mathlib.Core.Path.{_≡_};
-ghost use lib.ListN.{length};
 ghost use Rattle.session.specs.Refusals.{drawRefusal};
-ghost use Rattle.session.specs.Calls.{opened, DrawLeft, drawLeft};
+ghost use Rattle.session.specs.Calls.{opened, drawLeft};
 
 #[repr(C)]
 pub struct Session {
@@ -51,13 +50,12 @@ fn draw_refusal(
     if (cdt.len() != 20) | (polynomial.len() != 21) | (y != 2 * n) {
         return 2;
     }
-    if !base_sample::words_small(cdt) {
+    let cdt_right = base_sample::is_cdt(cdt);
+    let polynomial_right = exponential::is_polynomial(polynomial);
+    if !cdt_right {
         return 3;
     }
-    if !base_sample::never_falls(cdt) {
-        return 3;
-    }
-    if !exponential::is_polynomial(polynomial) {
+    if !polynomial_right {
         return 4;
     }
     if (limit < 2 * n) | (32 * n < limit) {

@@ -1,12 +1,10 @@
 -- `attempt::attempt` meets its contract. Assumes nothing.
 use mathlib.Core.Path.{ap, _∙_}
-use Prim.Native.Nat.{ℕ}
 use lib.IntN.{ℤ}
 use lib.ListN.{set}
 use Rattle.exponential.specs.Exponential.{expScaled}
 use Rattle.attempt.proofs.AttemptLaws.{bit-at, sample-at, attempt-written}
 use native.Mathlib.Nat.{lt-of-le-of-lt, mul-le-mul-right}
-use native.Mathlib.Omega.{arith}
 use borrow.Author.Needs.{needs}
 use Rattle.attempt.proofs.attempt.Statement.{statement}
 use Rattle.attempt.proofs.attempt.Tie as tie

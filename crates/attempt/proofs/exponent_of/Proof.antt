@@ -4,11 +4,10 @@ use mathlib.Core.Path.{refl}
 use Prim.Native.Nat.{ℕ, _+_, _*_, _^_, _≤_, _<_}
 use native.Mathlib.Nat.{mul-le-mul}
 use native.Mathlib.Omega.{arith}
-use Rattle.attempt.specs.Attempt.{exponent}
 use Rattle.attempt.proofs.exponent_of.Statement.{statement}
 use Rattle.attempt.proofs.exponent_of.Tie as tie
 
-at-most : (x b : ℕ) → x ≤ 10 → b < 2 ^ 8 → exponent x b ≤ 1370625
+at-most : (x b : ℕ) → x ≤ 10 → b < 2 ^ 8 → b * (b + 512 * x) ≤ 1370625
 at-most x b h g = mul-le-mul {n₁ = b} {m₁ = b + 512 * x} {n₂ = 255} {m₂ = 5375} (omega arith) (omega arith)
 
 mul-result : tie.Need-mul-result

@@ -11,13 +11,13 @@ use Rattle.base_sample.proofs.at_or_below.Tie as tie
 less-requires : tie.Need-less-requires
 less-requires c κs = search needs
 
-sub-result : tie.Need-sub-result
-sub-result c = let s = c .before .args in rw (c .less .ensures) (bit-le (ltb (value (s .b)) (value (s .a))))
-
 returns : tie.Need-returns
 returns c =
     let s = c .before in
     ap (λ (x : ℕ). 1 - x) (c .less .ensures) ∙ at-or-below (s .args .a .high) (s .args .a .low) (s .args .b .high) (s .args .b .low) (s .pre .0) (s .pre .1)
+
+sub-result : tie.Need-sub-result
+sub-result c = let s = c .before .args in rw (c .less .ensures) (bit-le (ltb (value (s .b)) (value (s .a))))
 
 pub at-or-below-spec : {M : Type 1} → statement M
 at-or-below-spec = tie.close (tie.spec less-requires sub-result returns)

@@ -1,9 +1,8 @@
 -- `sampler::attempts` meets its contract: the loop's invariant is `Turn`. Assumes nothing.
-use mathlib.Core.Path.{_≡_, ap, _∙_}
-use Prim.Native.Nat.{ℕ, _<_, _-_, _*_, _^_}
+use Prim.Native.Nat.{_<_, _-_}
 use native.Mathlib.Omega.{arith}
 use lib.Dec.{ltb}
-use lib.ListN.{length, length-set}
+use lib.ListN.{length-set}
 use borrow.Author.Tests.{ltb-true}
 use Rattle.checks.proofs.Laws.{both-true}
 use Rattle.exponential.specs.Exponential.{expScaled}

@@ -10,7 +10,7 @@ use borrow.Author.Tests.{not-true, not-false, eqb-true, leb-true, ltb-true, ltb-
 use Rattle.checks.specs.Checks.{isDegree, unless}
 use Rattle.checks.proofs.Laws.{both-true, degree-range}
 use Rattle.exponential.specs.Exponential.{isPolynomial}
-use Rattle.base_sample.specs.BaseSample.{wordsSmall, neverFalls}
+use Rattle.base_sample.specs.BaseSample.{isCdt}
 use Rattle.session.specs.Refusals.{drawRefusal}
 use Rattle.session.proofs.draw_refusal.Statement.{statement}
 use Rattle.session.proofs.draw_refusal.Tie as tie
@@ -36,7 +36,14 @@ outside l low high = rw (below-not-above l low, below-not-above high l) (by (leb
     by true = refl
     by false = refl
 
--- ** What the tests say where they are passed
+-- ** Refusal 1
+
+is-degree-requires : tie.Need-is-degree-requires
+is-degree-requires c κs = search needs
+
+returns : tie.Need-returns
+unfolding drawRefusal unless
+returns c = rw (sym (c .before .is-degree .ensures) ∙ not-true _ (c .if1 .taken))
 
 abbrev start : tie.Else1 → tie.Start
 start c = c .before .before .before .before
@@ -47,141 +54,119 @@ degree c = sym (c .before .is-degree .ensures) ∙ not-false _ (c .if1 .left)
 small : (c : tie.Else1) → start c .args .n ≤ 1024
 small c = degree-range (start c .args .n) (degree c) .1
 
+-- ** Refusal 2
+
 abbrev size-test : tie.Start → Bool
 size-test c = let a = c .args in eqb (length (a .cdt .now)) 20 && (eqb (length (a .polynomial .now)) 21 && eqb (a .y) (2 * a .n))
 
 sizes-fail : (c : tie.Start) → let a = c .args in ((not (eqb (length (a .cdt .now)) 20) || not (eqb (length (a .polynomial .now)) 21)) || not (eqb (a .y) (2 * a .n))) ≡ not (size-test c)
 sizes-fail c = let a = c .args in three-fail (eqb (length (a .cdt .now)) 20) (eqb (length (a .polynomial .now)) 21) (eqb (a .y) (2 * a .n))
 
-sizes : (c : tie.Else2) → size-test (start (c .before)) ≡ true
-sizes c = not-false _ (sym (sizes-fail (start (c .before))) ∙ c .if2 .left)
-
-twenty : (c : tie.Else2) → length (start (c .before) .args .cdt .now) ≡ 20
-twenty c = eqb-true _ 20 (both-true (eqb (length (start (c .before) .args .cdt .now)) 20) _ (sizes c) .0)
-
-words-small : (c : tie.Else3) → wordsSmall (start (c .before .before .before) .args .cdt .now) ≡ true
-words-small c = sym (c .before .words-small .ensures) ∙ not-false _ (c .if3 .left)
-
-never-falls : (c : tie.Else4) → neverFalls (start (c .before .before .before .before .before) .args .cdt .now) ≡ true
-never-falls c = sym (c .before .never-falls .ensures) ∙ not-false _ (c .if4 .left)
-
-polynomial : (c : tie.Else5) → isPolynomial (start (c .before .before .before .before .before .before .before) .args .polynomial .now) ≡ true
-polynomial c = sym (c .before .is-polynomial .ensures) ∙ not-false _ (c .if5 .left)
-
-limits : (c : tie.Else6) → let a = start (c .before .before .before .before .before .before .before .before) .args in (leb (2 * a .n) (a .limit) && leb (a .limit) (32 * a .n)) ≡ true
-limits c =
-    let a = start (c .before .before .before .before .before .before .before .before) .args in
-    not-false _ (sym (outside (a .limit) (2 * a .n) (32 * a .n)) ∙ c .if6 .left)
-
-limit-small : (c : tie.Else6) → start (c .before .before .before .before .before .before .before .before) .args .limit ≤ 32768
-limit-small c =
-    let one = c .before .before .before .before .before .before .before .before in
-    omega (arith, small one, leb-true (start one .args .limit) (32 * start one .args .n) (both-true (leb (2 * start one .args .n) (start one .args .limit)) _ (limits c) .1))
-
--- ** The needs
-
-is-degree-requires : tie.Need-is-degree-requires
-is-degree-requires c κs = search needs
-
-returns : tie.Need-returns
-unfolding drawRefusal unless
-returns c = rw (sym (c .before .is-degree .ensures) ∙ not-true _ (c .if1 .taken))
-
 mul-if2 : tie.Need-mul-if2
 mul-if2 c = omega (arith, small c)
+
+sizes : (c : tie.Else2) → size-test (start (c .before)) ≡ true
+sizes c = not-false _ (sym (sizes-fail (start (c .before))) ∙ c .if2 .left)
 
 returns-2 : tie.Need-returns-2
 unfolding drawRefusal unless
 returns-2 c = rw (degree (c .before), not-true (size-test (start (c .before))) (sym (sizes-fail (start (c .before))) ∙ c .if2 .taken))
 
-words-small-requires : tie.Need-words-small-requires
-words-small-requires c κs = twenty c
+-- ** Refusals 3 and 4
 
-returns-3 : tie.Need-returns-3
-unfolding drawRefusal unless
-returns-3 c =
-    let two = c .before .before in
-    rw (degree (two .before), sizes two, sym (c .before .words-small .ensures) ∙ not-true _ (c .if3 .taken))
-
-never-falls-requires : tie.Need-never-falls-requires
-never-falls-requires c κs = (twenty (c .before .before), words-small c)
-
-returns-4 : tie.Need-returns-4
-unfolding drawRefusal unless
-returns-4 c =
-    let three = c .before .before in
-    let two = three .before .before in
-    rw (degree (two .before), sizes two, words-small three, sym (c .before .never-falls .ensures) ∙ not-true _ (c .if4 .taken))
+is-cdt-requires : tie.Need-is-cdt-requires
+is-cdt-requires c κs = eqb-true _ 20 (both-true (eqb (length (start (c .before) .args .cdt .now)) 20) _ (sizes c) .0)
 
 is-polynomial-requires : tie.Need-is-polynomial-requires
 is-polynomial-requires c κs = search needs
 
+cdt : (c : tie.Else3) → isCdt (start (c .before .before .before .before) .args .cdt .now) ≡ true
+cdt c = sym (c .before .before .is-cdt .ensures) ∙ not-false _ (c .if3 .left)
+
+returns-3 : tie.Need-returns-3
+unfolding drawRefusal unless
+returns-3 c =
+    let two = c .before .before .before in
+    rw (degree (two .before), sizes two, sym (c .before .before .is-cdt .ensures) ∙ not-true _ (c .if3 .taken))
+
+polynomial : (c : tie.Else4) → isPolynomial (start (c .before .before .before .before .before) .args .polynomial .now) ≡ true
+polynomial c = sym (c .before .before .is-polynomial .ensures) ∙ not-false _ (c .if4 .left)
+
+returns-4 : tie.Need-returns-4
+unfolding drawRefusal unless
+returns-4 c =
+    let three = c .before in
+    let two = three .before .before .before in
+    rw (degree (two .before), sizes two, cdt three, sym (three .before .is-polynomial .ensures) ∙ not-true _ (c .if4 .taken))
+
+-- ** Refusal 5
+
+mul-if5 : tie.Need-mul-if5
+mul-if5 c = omega (arith, small (c .before .before .before .before .before))
+
+mul-if5-2 : tie.Need-mul-if5-2
+mul-if5-2 c = omega (arith, small (c .before .before .before .before .before))
+
 returns-5 : tie.Need-returns-5
 unfolding drawRefusal unless
 returns-5 c =
-    let four = c .before .before in
-    let three = four .before .before in
-    let two = three .before .before in
-    rw (degree (two .before), sizes two, words-small three, never-falls four, sym (c .before .is-polynomial .ensures) ∙ not-true _ (c .if5 .taken))
+    let four = c .before in
+    let three = four .before in
+    let two = three .before .before .before in
+    let a = start (two .before) .args in
+    rw (degree (two .before), sizes two, cdt three, polynomial four, not-true (leb (2 * a .n) (a .limit) && leb (a .limit) (32 * a .n)) (sym (outside (a .limit) (2 * a .n) (32 * a .n)) ∙ c .if5 .taken))
+
+limits : (c : tie.Else5) → let a = start (c .before .before .before .before .before .before) .args in (leb (2 * a .n) (a .limit) && leb (a .limit) (32 * a .n)) ≡ true
+limits c =
+    let a = start (c .before .before .before .before .before .before) .args in
+    not-false _ (sym (outside (a .limit) (2 * a .n) (32 * a .n)) ∙ c .if5 .left)
+
+limit-small : (c : tie.Else5) → start (c .before .before .before .before .before .before) .args .limit ≤ 32768
+limit-small c =
+    let one = c .before .before .before .before .before .before in
+    omega (arith, small one, leb-true (start one .args .limit) (32 * start one .args .n) (both-true (leb (2 * start one .args .n) (start one .args .limit)) _ (limits c) .1))
+
+-- ** Refusals 7 and 8
 
 mul-if6 : tie.Need-mul-if6
-mul-if6 c = omega (arith, small (c .before .before .before .before .before .before .before))
-
-mul-if6-2 : tie.Need-mul-if6-2
-mul-if6-2 c = omega (arith, small (c .before .before .before .before .before .before .before))
+mul-if6 c = omega (arith, limit-small c)
 
 returns-6 : tie.Need-returns-6
 unfolding drawRefusal unless
 returns-6 c =
     let five = c .before in
-    let four = five .before .before in
-    let three = four .before .before in
-    let two = three .before .before in
-    let a = start (two .before) .args in
-    rw (degree (two .before), sizes two, words-small three, never-falls four, polynomial five, not-true (leb (2 * a .n) (a .limit) && leb (a .limit) (32 * a .n)) (sym (outside (a .limit) (2 * a .n) (32 * a .n)) ∙ c .if6 .taken))
+    let four = five .before in
+    let three = four .before in
+    let two = three .before .before .before in
+    rw (degree (two .before), sizes two, cdt three, polynomial four, limits five, lt-leb _ _ (c .if6 .taken))
 
 mul-if7 : tie.Need-mul-if7
-mul-if7 c = omega (arith, limit-small c)
+mul-if7 c = omega (arith, limit-small (c .before))
+
+add-if7 : tie.Need-add-if7
+add-if7 c = omega (arith, limit-small (c .before))
 
 returns-7 : tie.Need-returns-7
 unfolding drawRefusal unless
 returns-7 c =
     let six = c .before in
     let five = six .before in
-    let four = five .before .before in
-    let three = four .before .before in
-    let two = three .before .before in
-    rw (degree (two .before), sizes two, words-small three, never-falls four, polynomial five, limits six, lt-leb _ _ (c .if7 .taken))
-
-mul-if8 : tie.Need-mul-if8
-mul-if8 c = omega (arith, limit-small (c .before))
-
-add-if8 : tie.Need-add-if8
-add-if8 c = omega (arith, limit-small (c .before))
+    let four = five .before in
+    let three = four .before in
+    let two = three .before .before .before in
+    rw (degree (two .before), sizes two, cdt three, polynomial four, limits five, le-leb _ _ (six .if6 .left), lt-leb _ _ (c .if7 .taken))
 
 returns-8 : tie.Need-returns-8
 unfolding drawRefusal unless
 returns-8 c =
-    let seven = c .before in
-    let six = seven .before in
+    let six = c .before in
     let five = six .before in
-    let four = five .before .before in
-    let three = four .before .before in
-    let two = three .before .before in
-    rw (degree (two .before), sizes two, words-small three, never-falls four, polynomial five, limits six, le-leb _ _ (seven .if7 .left), lt-leb _ _ (c .if8 .taken))
-
-returns-9 : tie.Need-returns-9
-unfolding drawRefusal unless
-returns-9 c =
-    let seven = c .before in
-    let six = seven .before in
-    let five = six .before in
-    let four = five .before .before in
-    let three = four .before .before in
-    let two = three .before .before in
-    rw (degree (two .before), sizes two, words-small three, never-falls four, polynomial five, limits six, le-leb _ _ (seven .if7 .left), le-leb _ _ (c .if8 .left))
+    let four = five .before in
+    let three = four .before in
+    let two = three .before .before .before in
+    rw (degree (two .before), sizes two, cdt three, polynomial four, limits five, le-leb _ _ (six .if6 .left), le-leb _ _ (c .if7 .left))
 
 pub draw-refusal-spec : {M : Type 1} → statement M
 draw-refusal-spec =
     tie.close
-    (tie.spec is-degree-requires returns mul-if2 returns-2 words-small-requires returns-3 never-falls-requires returns-4 is-polynomial-requires returns-5 mul-if6 mul-if6-2 returns-6 mul-if7 returns-7 mul-if8 add-if8 returns-8 returns-9)
+    (tie.spec is-degree-requires returns mul-if2 returns-2 is-cdt-requires is-polynomial-requires returns-3 returns-4 mul-if5 mul-if5-2 returns-5 mul-if6 returns-6 mul-if7 add-if7 returns-7 returns-8)

@@ -1,6 +1,6 @@
 -- `signed::sign_of` meets its contract: 0 and 1 are the only bits. Assumes nothing.
 use borrow.Author.Needs.{needs}
-use Rattle.signed.proofs.Signs.{SignOf, sign-of}
+use Rattle.signed.proofs.Signs.{sign-of}
 use Rattle.signed.proofs.sign_of.Statement.{statement}
 use Rattle.signed.proofs.sign_of.Tie as tie
 

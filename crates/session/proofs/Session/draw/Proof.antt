@@ -1,12 +1,11 @@
 -- `session::Session::draw` meets its contract, refused or served. Assumes nothing.
 use borrow.Author.Needs.{needs}
-use mathlib.Core.Path.{_≡_, sym, _∙_}
-use Prim.Native.Nat.{ℕ, _*_, _≤_, _<_, _^_}
+use mathlib.Core.Path.{sym, _∙_}
+use Prim.Native.Nat.{_<_}
 use native.Mathlib.Omega.{arith}
 use lib.Dec.{lit<}
 use lib.ListN.{length}
 use Rattle.checks.proofs.Laws.{degree-range}
-use Rattle.sampler.specs.Draw.{Sampled}
 use Rattle.session.specs.Calls.{drawRefused, drawServed}
 use Rattle.session.proofs.Served.{DrawServed, draw-served}
 use Rattle.session.proofs.CallLaws.{draw-refused, draw-sampled}

@@ -1,0 +1,137 @@
+//! The BLISS-I sampling box for a Rust host. It draws the noise vector y of a signature from random words that the host
+//! supplies, and lists every place that it reads. Document 01 is the definition of the box.
+//!
+//! ```
+//! use bliss_box::{filled, list_length, sample_count, word_count, Session, CDT, POLYNOMIAL};
+//!
+//! const N: usize = 4;
+//! const LIMIT: usize = 62;
+//! // In earnest, fresh words from a source of random numbers, used once.
+//! let words = [0; word_count(LIMIT)];
+//! let mut y = [0; sample_count(N)];
+//! let mut list = vec![0; list_length(LIMIT)];
+//!
+//! let session = Session::open(N)?;
+//! let drawn = session.draw(LIMIT, &CDT, &POLYNOMIAL, &words, &mut y, &mut list);
+//! let counts = drawn.answer?;
+//! assert!(drawn.session.is_drawn());
+//! assert_eq!(counts.accepted, sample_count(N));
+//! assert_eq!(filled(&list, counts.entries).len(), counts.entries);
+//! # Ok::<(), bliss_box::Refusal>(())
+//! ```
+//!
+//! The archive is linked from the repository's `target/staticlib`, where `rt staticlib bliss_box` writes it, or from the folder
+//! that the environment variable `BLISS_BOX_LIB_DIR` names when the crate is built.
+
+pub mod raw;
+mod refusal;
+mod tables;
+
+pub use refusal::Refusal;
+pub use tables::{list_length, sample_count, word_count, CDT, POLYNOMIAL};
+
+/// A degree, and whether y is drawn. A draw takes the session and hands back the next one, so that none is used twice:
+///
+/// ```compile_fail,E0382
+/// use bliss_box::{Session, CDT, POLYNOMIAL};
+///
+/// let session = Session::open(4).unwrap();
+/// let _ = session.draw(8, &CDT, &POLYNOMIAL, &[0; 32], &mut [0; 8], &mut [0; 370]);
+/// let _ = session.draw(8, &CDT, &POLYNOMIAL, &[0; 32], &mut [0; 8], &mut [0; 370]);
+/// ```
+#[derive(Debug, PartialEq, Eq)]
+#[must_use]
+pub struct Session(raw::Session);
+
+/// What a served draw counted.
+#[derive(Clone, Copy, Debug, PartialEq, Eq)]
+pub struct Counts {
+    /// The attempts made, at most the limit.
+    pub attempts: usize,
+    /// The samples accepted: 2n if the draw is full, and fewer if it is spent.
+    pub accepted: usize,
+    /// The entries written from the start of the list.
+    pub entries: usize,
+}
+
+/// The answer to a draw, and the next session. A refused draw hands back the session that it took.
+#[derive(Debug, PartialEq, Eq)]
+#[must_use]
+pub struct Drawn {
+    pub answer: Result<Counts, Refusal>,
+    pub session: Session,
+}
+
+impl Session {
+    /// A session of degree `n` with nothing drawn. Refuses an `n` that is not a power of two from 4 to 1,024.
+    pub fn open(n: usize) -> Result<Session, Refusal> {
+        // SAFETY: the call takes any number and no pointer.
+        let opened = unsafe { raw::bliss_open(n) };
+        match Refusal::of_answer(opened.refusal) {
+            None => Ok(Session(opened.session)),
+            Some(refusal) => Err(refusal),
+        }
+    }
+
+    /// n: y has 2n samples.
+    pub fn degree(&self) -> usize {
+        self.0.degree
+    }
+
+    /// Whether the last draw that was not refused was full, so that y holds 2n samples.
+    pub fn is_drawn(&self) -> bool {
+        self.0.drawn
+    }
+
+    /// Draws 2n samples into `y` in at most `limit` attempts, 2n to 32n, and lists its reads from the start of `list`.
+    ///
+    /// Full: `y` holds the samples in order of acceptance. Spent, which is after `limit` attempts with fewer than 2n samples:
+    /// `y` is all zero. The rest of `list` is unchanged. A refused draw changes neither `y` nor `list`.
+    ///
+    /// With [`CDT`] an attempt is accepted with a chance of 0.678. A limit of 1,780 is spent with a chance of at most 2^-64 at
+    /// n = 512, and so is one of 62 at n = 4.
+    pub fn draw(self, limit: usize, cdt: &[u64], polynomial: &[u64], words: &[u64], y: &mut [i32], list: &mut [u32]) -> Drawn {
+        // SAFETY: each pointer and length are those of one slice, so the memory is aligned and valid for as many values; an
+        // empty slice's pointer dangles, and at length 0 none is read. The two buffers that are written are borrowed for this
+        // call alone, so they overlap nothing. Whatever bits the box writes there are values of i32 and u32. It keeps no
+        // pointer.
+        let drawn = unsafe {
+            raw::bliss_draw(
+                self.0,
+                limit,
+                cdt.as_ptr(),
+                cdt.len(),
+                polynomial.as_ptr(),
+                polynomial.len(),
+                words.as_ptr(),
+                words.len(),
+                y.as_mut_ptr(),
+                y.len(),
+                list.as_mut_ptr(),
+                list.len(),
+            )
+        };
+        let counts = Counts { attempts: drawn.answer.attempts, accepted: drawn.answer.accepted, entries: drawn.answer.entries };
+        Drawn { answer: Refusal::of_answer(drawn.answer.refusal).map_or(Ok(counts), Err), session: Session(drawn.session) }
+    }
+}
+
+/// The filled part of a list that `count` entries were written to: the list's own first entries. A count over the list's
+/// length gets the empty part.
+pub fn filled(list: &[u32], count: usize) -> &[u32] {
+    // SAFETY: pointer and length are those of one slice, which is borrowed for longer than the call.
+    let length = unsafe { raw::bliss_filled(list.as_ptr(), list.len(), count) };
+    &list[..length]
+}
+
+/// e(n), near exp(-n / 92450), in units of 2^-62. Refuses an `n` above 5,534,960.
+pub fn exponential(n: u64) -> Result<u64, Refusal> {
+    // SAFETY: the call takes any number and no pointer.
+    match unsafe { raw::bliss_exponential(n) } {
+        EXPONENTIAL_REFUSED => Err(Refusal::Exponential),
+        e => Ok(e),
+    }
+}
+
+/// What the exponential gives for a refused n: no value of e, which is at most 2^62.
+const EXPONENTIAL_REFUSED: u64 = (1 << 63) + Refusal::Exponential.number() as u64;

@@ -1,0 +1,46 @@
+//! The tables that a host lends, and the sizes of what it lends.
+
+/// The polynomial table, the one that a draw accepts: entry j is the whole part of 2^62 / j!.
+pub const POLYNOMIAL: [u64; 21] = polynomial();
+
+/// The whole part of a quotient's whole part, over j, is that of the whole quotient: no factorial is needed.
+const fn polynomial() -> [u64; 21] {
+    let mut table = [1 << 62; 21];
+    let mut j = 1;
+    while j < table.len() {
+        table[j] = table[j - 1] / j as u64;
+        j += 1;
+    }
+    table
+}
+
+/// The CDT table for deviation 215: ten thresholds, each a high word and a low word. Threshold i is the nearest whole number to
+/// 2^124 times the chance that the base sample is below i, where j has the weight exp(-65536 j² / 92450), j = 0 to 10.
+#[rustfmt::skip]
+pub const CDT: [u64; 20] = [
+    2970318119077987601,  139537425007862173,
+    4432293587828485953, 2218333992557025118,
+    4606615286148199816, 2870311867292663647,
+    4611650721831976652, 3044458817194566665,
+    4611685958667561403,  456626370962175178,
+    4611686018402853103, 3423392530604428891,
+    4611686018427385463,  918063073876867824,
+    4611686018427387903, 4340391528176902920,
+    4611686018427387903, 4611684434372927295,
+    4611686018427387903, 4611686018425147250,
+];
+
+/// The samples that a draw makes at degree `n`: the length of y.
+pub const fn sample_count(n: usize) -> usize {
+    2 * n
+}
+
+/// The words that a draw of at most `limit` attempts must be lent.
+pub const fn word_count(limit: usize) -> usize {
+    4 * limit
+}
+
+/// The list entries that a draw of at most `limit` attempts must be lent.
+pub const fn list_length(limit: usize) -> usize {
+    46 * limit + 2
+}

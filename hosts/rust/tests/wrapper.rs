@@ -1,0 +1,154 @@
+//! The safe functions: what they hand back, served and refused.
+
+use bliss_box::{exponential, filled, list_length, sample_count, word_count, Counts, Refusal, Session, CDT, POLYNOMIAL};
+
+const N: usize = 4;
+const LIMIT: usize = 2 * N;
+
+/// Draws with these words, y of all ones before, and a list of all nines.
+fn draw(session: Session, word: u64) -> (bliss_box::Drawn, Vec<i32>, Vec<u32>) {
+    let words = [word; word_count(LIMIT)];
+    let mut y = vec![1; sample_count(N)];
+    let mut list = vec![9; list_length(LIMIT)];
+    let drawn = session.draw(LIMIT, &CDT, &POLYNOMIAL, &words, &mut y, &mut list);
+    (drawn, y, list)
+}
+
+fn drawn_session() -> Session {
+    let (drawn, ..) = draw(Session::open(N).unwrap(), 0);
+    assert!(drawn.session.is_drawn());
+    drawn.session
+}
+
+#[test]
+fn opening_serves_powers_of_two_alone() {
+    for n in [4, 8, 16, 32, 64, 128, 256, 512, 1024] {
+        let session = Session::open(n).unwrap();
+        assert_eq!(session.degree(), n);
+        assert!(!session.is_drawn());
+    }
+    for n in [0, 1, 2, 3, 12, 2048, usize::MAX] {
+        assert_eq!(Session::open(n), Err(Refusal::Degree));
+    }
+}
+
+#[test]
+fn a_full_draw_sets_drawn() {
+    // Words of 0 give the sample 0, which is always accepted.
+    let (drawn, y, list) = draw(Session::open(N).unwrap(), 0);
+    assert_eq!(drawn.answer, Ok(Counts { attempts: 8, accepted: 8, entries: 370 }));
+    assert!(drawn.session.is_drawn());
+    assert_eq!(y, [0; 8]);
+    assert_eq!(list[0], (1 << 24) + 4);
+    assert_eq!(list[369], (6 << 24) + 8);
+}
+
+#[test]
+fn a_spent_draw_clears_drawn() {
+    // Words of all ones give the size 2815, which word 3 rejects.
+    let (drawn, y, list) = draw(drawn_session(), u64::MAX);
+    assert_eq!(drawn.answer, Ok(Counts { attempts: 8, accepted: 0, entries: 370 }));
+    assert!(!drawn.session.is_drawn());
+    assert_eq!(drawn.session.degree(), N);
+    assert_eq!(y, [0; 8]);
+    assert_eq!(list[369], 6 << 24);
+}
+
+#[test]
+fn a_refused_draw_hands_the_session_back() {
+    let words = [0; word_count(LIMIT)];
+    let mut y = [1; sample_count(N)];
+    let mut list = [9; list_length(LIMIT)];
+    let refused = drawn_session().draw(LIMIT - 1, &CDT, &POLYNOMIAL, &words, &mut y, &mut list);
+    assert_eq!(refused.answer, Err(Refusal::Limit));
+    assert!(refused.session.is_drawn());
+    assert_eq!(refused.session.degree(), N);
+    assert_eq!(y, [1; 8]);
+    assert_eq!(list, [9; 370]);
+
+    let served = refused.session.draw(LIMIT, &CDT, &POLYNOMIAL, &words, &mut y, &mut list);
+    assert!(served.answer.is_ok());
+}
+
+#[test]
+fn each_refusal_of_a_draw_is_typed() {
+    let mut falling = CDT;
+    falling[19] = 0;
+    let mut damaged = POLYNOMIAL;
+    damaged[19] = 38;
+    let refusal = |limit, cdt: &[u64], polynomial: &[u64], words, list| {
+        let words = vec![0; words];
+        let mut list = vec![0; list];
+        let session = Session::open(N).unwrap();
+        session.draw(limit, cdt, polynomial, &words, &mut [0; 8], &mut list).answer.unwrap_err()
+    };
+    assert_eq!(refusal(8, &CDT[..19], &POLYNOMIAL, 32, 370), Refusal::Lengths);
+    assert_eq!(refusal(8, &falling, &POLYNOMIAL, 32, 370), Refusal::Cdt);
+    assert_eq!(refusal(8, &CDT, &damaged, 32, 370), Refusal::Polynomial);
+    assert_eq!(refusal(7, &CDT, &POLYNOMIAL, 32, 370), Refusal::Limit);
+    assert_eq!(refusal(129, &CDT, &POLYNOMIAL, 516, 5936), Refusal::Limit);
+    assert_eq!(refusal(8, &CDT, &POLYNOMIAL, 31, 370), Refusal::Words);
+    assert_eq!(refusal(8, &CDT, &POLYNOMIAL, 32, 369), Refusal::List);
+}
+
+#[test]
+fn empty_slices_are_refused_and_not_read() {
+    let session = Session::open(N).unwrap();
+    let drawn = session.draw(LIMIT, &[], &[], &[], &mut [], &mut []);
+    assert_eq!(drawn.answer, Err(Refusal::Lengths));
+    let drawn = drawn.session.draw(LIMIT, &CDT, &POLYNOMIAL, &[], &mut [0; 8], &mut []);
+    assert_eq!(drawn.answer, Err(Refusal::Words));
+    let drawn = drawn.session.draw(LIMIT, &CDT, &POLYNOMIAL, &[0; 32], &mut [0; 8], &mut []);
+    assert_eq!(drawn.answer, Err(Refusal::List));
+}
+
+#[test]
+fn the_known_points_of_an_attempt_hold() {
+    let thresholds: Vec<u64> = (1..=10).flat_map(|i| [i << 40, 0]).collect();
+    let all = (1 << 62) - 1;
+    let sample = |high: u64, low: u64, word_2: u64| {
+        let words = [high, low, word_2, 0].repeat(LIMIT);
+        let mut y = [0; sample_count(N)];
+        let session = Session::open(N).unwrap();
+        let drawn = session.draw(LIMIT, &thresholds, &POLYNOMIAL, &words, &mut y, &mut [0; list_length(LIMIT)]);
+        drawn.session.is_drawn().then_some(y[0])
+    };
+    assert_eq!(sample(0, 0, 0), Some(0));
+    assert_eq!(sample((1 << 40) - 1, all, 0), Some(0));
+    assert_eq!(sample(1 << 40, 0, 0), Some(256));
+    assert_eq!(sample(all, 0, 0), Some(2560));
+    assert_eq!(sample(0, 0, 257), Some(-1));
+    assert_eq!(sample(0, 0, 256), None);
+}
+
+#[test]
+fn the_filled_part_is_the_lists_own() {
+    let list = [1, 2, 3];
+    assert_eq!(filled(&list, 2).as_ptr_range(), list[..2].as_ptr_range());
+    assert_eq!(filled(&list, 3), list);
+    assert_eq!(filled(&list, 4), []);
+    assert_eq!(filled(&[], 0), []);
+    assert_eq!(filled(&[], usize::MAX), []);
+}
+
+#[test]
+fn the_exponential_refuses_above_its_limit() {
+    assert_eq!(exponential(0), Ok(1 << 62));
+    assert_eq!(exponential(513), Ok(4586166892218597776));
+    assert_eq!(exponential(1370625), Ok(1679544596975));
+    assert_eq!(exponential(5534960), Ok(0));
+    assert_eq!(exponential(5534961), Err(Refusal::Exponential));
+    assert_eq!(exponential(u64::MAX), Err(Refusal::Exponential));
+}
+
+#[test]
+fn refusals_carry_their_number() {
+    assert_eq!(Refusal::Words.number(), 7);
+    assert_eq!(Refusal::Exponential.to_string(), "refusal 12: N is above 5534960");
+}
+
+#[test]
+fn the_tables_are_those_of_document_01() {
+    assert_eq!([POLYNOMIAL[0], POLYNOMIAL[1], POLYNOMIAL[19], POLYNOMIAL[20]], [1 << 62, 1 << 62, 37, 1]);
+    assert_eq!([sample_count(4), word_count(128), list_length(128)], [8, 512, 5890]);
+}
