@@ -25,10 +25,10 @@ def trace(command):
 def main():
     split = sys.argv.index("--")
     wanted, command, seeds = sys.argv[1], sys.argv[2:split], sys.argv[split + 1:]
-    first, *others = (trace([*command, seed]) for seed in seeds)
-    equal = [other == first for other in others]
+    first = trace([*command, seeds[0]])
+    equal = [trace([*command, seed]) == first for seed in seeds[1:]]
     print(f"{' '.join(command)}: {len(seeds)} traces, {len(first)} lines, {sum(equal)} of {len(equal)} equal to the first")
-    return 0 if others and all(e == (wanted == "same") for e in equal) else 1
+    return 0 if equal and all(e == (wanted == "same") for e in equal) else 1
 
 
 sys.exit(main())
