@@ -15,16 +15,16 @@ use Rattle.attempt.specs.Attempt.{attemptEntries}
 
 -- ** The bit and the sample
 
-module _ (cdt words : List ℕ) (t first second third fourth high low x : ℕ)
-    (e₁ : first ≡ getD words (4 * t) 0) (e₂ : second ≡ getD words (4 * t + 1) 0) (e₃ : third ≡ getD words (4 * t + 2) 0) (e₄ : fourth ≡ getD words (4 * t + 3) 0)
-    (eh : high ≡ first % 2 ^ 62) (el : low ≡ second % 2 ^ 62) (ex : x ≡ baseSample cdt (high * 2 ^ 62 + low)) where
+module _ (cdt words : List ℕ) (t high low third fourth x : ℕ)
+    (eh : high ≡ getD words (4 * t) 0 % 2 ^ 62) (el : low ≡ getD words (4 * t + 1) 0 % 2 ^ 62) (e₃ : third ≡ getD words (4 * t + 2) 0) (e₄ : fourth ≡ getD words (4 * t + 3) 0)
+    (ex : x ≡ baseSample cdt (high * 2 ^ 62 + low)) where
   base-at : x ≡ baseSample cdt (drawAt words t)
-  base-at = ex ∙ rw (eh, el, e₁, e₂)
+  base-at = ex ∙ rw (eh, el)
 
-  pub bit-at : (e : ℕ → ℕ) (b n value : ℕ) (r : Bool) → b ≡ third % 2 ^ 8 → n ≡ exponent x b → value ≡ e n
+  pub bit-at : (e : ℕ → ℕ) (n value : ℕ) (r : Bool) → n ≡ exponent x (third % 2 ^ 8) → value ≡ e n
       → r ≡ (ltb (fourth % 2 ^ 62) value && not (eqb (size x (third % 2 ^ 8)) 0 && eqb (third / 2 ^ 8 % 2) 1)) → r ≡ bitAt e cdt words t
   unfolding bitAt accepts
-  bit-at e b n value r eb en ev er = er ∙ rw (ev, en, eb, base-at, e₃, e₄)
+  bit-at e n value r en ev er = er ∙ rw (ev, en, base-at, e₃, e₄)
 
   pub sample-at : sample x (third % 2 ^ 8) (eqb (third / 2 ^ 8 % 2) 1) ≡ sampleAt cdt words t
   unfolding sampleAt

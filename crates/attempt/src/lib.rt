@@ -10,36 +10,39 @@ ghost use Rattle.exponential.specs.Exponential.{expScaled};
 ghost use Rattle.attempt.specs.Attempt.{size, exponent, sample, Tables, bitAt, sampleAt, attemptEntries};
 use arithmetic::Wide;
 
-// The four words of an attempt.
+// The words of an attempt: the draw that the first two give, and the other two.
 pub struct AttemptWords {
-    pub first: u64,
-    pub second: u64,
+    pub draw: Wide,
     pub third: u64,
     pub fourth: u64,
 }
 
-// Four words from a place on, listed from the index `at` of a list on.
+// The words of an attempt from a place on, listed from the index `at` of a list on.
 fn attempt_words(words: &[u64], place: usize, list: &mut [u32], at: usize) -> AttemptWords
     requires { ⌜ (place + 4 ≤ length (now words)) × (place + 4 ≤ 2 ^ 24) × (at + 4 ≤ length (now list)) ⌝ }
-    ensures { λ r. ⌜ (r .first ≡ getD (now (words .entry)) place 0) × (r .second ≡ getD (now (words .entry)) (place + 1) 0) × (r .third ≡ getD (now (words .entry)) (place + 2) 0) × (r .fourth ≡ getD (now (words .entry)) (place + 3) 0) × (now (list .exit) ≡ sets (now (list .entry)) at (placesUp 2 place 4)) ⌝ }
+    ensures { λ r. ⌜ (r .draw .high ≡ getD (now (words .entry)) place 0 % 2 ^ 62) × (r .draw .low ≡ getD (now (words .entry)) (place + 1) 0 % 2 ^ 62) × (r .third ≡ getD (now (words .entry)) (place + 2) 0) × (r .fourth ≡ getD (now (words .entry)) (place + 3) 0) × (now (list .exit) ≡ sets (now (list .entry)) at (placesUp 2 place 4)) ⌝ }
 {
     let first = read_list::listed_word(words, 2, place, list, at);
     let second = read_list::listed_word(words, 2, place + 1, list, at + 1);
     let third = read_list::listed_word(words, 2, place + 2, list, at + 2);
     let fourth = read_list::listed_word(words, 2, place + 3, list, at + 3);
+    let draw = Wide {
+        high: arithmetic::low62(first),
+        low: arithmetic::low62(second),
+    };
     AttemptWords {
-        first,
-        second,
+        draw,
         third,
         fourth,
     }
 }
 
 // N, by which an attempt is accepted.
-fn exponent_of(x: u64, b: u64) -> u64
-    requires { ⌜ (x ≤ 10) × (b < 2 ^ 8) ⌝ }
-    ensures { λ r. ⌜ (r ≡ exponent x b) × (r ≤ 1370625) ⌝ }
+fn exponent_of(x: u64, third: u64) -> u64
+    requires { ⌜ x ≤ 10 ⌝ }
+    ensures { λ r. ⌜ (r ≡ exponent x (third % 2 ^ 8)) × (r ≤ 1370625) ⌝ }
 {
+    let b = arithmetic::low8(third);
     b * (b + 512 * x)
 }
 
@@ -77,14 +80,9 @@ pub fn attempt(
 {
     let w = attempt_words(words, 4 * t, list, at);
     let third = w.third;
-    let fourth = w.fourth;
-    let draw = Wide {
-        high: arithmetic::low62(w.first),
-        low: arithmetic::low62(w.second),
-    };
-    let x = base_sample::scan(cdt, draw, list, at + 4);
-    let n = exponent_of(x, arithmetic::low8(third));
+    let x = base_sample::scan(cdt, w.draw, list, at + 4);
+    let n = exponent_of(x, third);
     let e = exponential::exp_listed(table, reciprocal, n, list, at + 24);
     read_list::note(5, k, list, at + 45);
-    judged(e, x, third, fourth, y, k)
+    judged(e, x, third, w.fourth, y, k)
 }

@@ -14,10 +14,10 @@ use Rattle.exponential.proofs.Table.{reciprocal-215}
 use Rattle.sampler.specs.Draw.{drawBits, Sampled, sampledBy}
 use Rattle.sampler.proofs.DrawLaws.{draw-entries-at-most}
 use Rattle.session.specs.declared.Session.{Session}
-use Rattle.session.specs.Refusals.{drawRefusal}
+use Rattle.refusals.specs.Refusals.{drawRefusal}
 use Rattle.session.specs.Calls.{DrawLeft, drawRefused, drawServed, drawLeft}
 use Rattle.session.specs.CallLaws.{DrawCountsEntries, DrawKeepsDegree, RefusedDrawTouchesNothing}
-use Rattle.session.proofs.Served.{draw-served}
+use Rattle.refusals.proofs.Served.{draw-served}
 
 -- e(N) by R at deviation 215
 by-215 : (table : List ℕ) → expScaled table 3269134179596076729 ≡ expWith table divisor

@@ -10,7 +10,7 @@ use Rattle.sampler.specs.Draw.{drawBits, Sampled, sampledBy}
 use Rattle.session.specs.declared.Session.{Session}
 use Rattle.session.specs.declared.Opened.{Opened}
 use Rattle.session.specs.declared.Drawn.{Drawn}
-use Rattle.session.specs.Refusals.{openRefusal, drawRefusal}
+use Rattle.refusals.specs.Refusals.{openRefusal, drawRefusal}
 
 -- ** Opening
 

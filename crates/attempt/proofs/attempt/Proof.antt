@@ -1,10 +1,10 @@
 -- `attempt::attempt` meets its contract. Assumes nothing.
 use mathlib.Core.Path.{ap, _∙_}
+use native.Mathlib.Nat.{lt-of-le-of-lt, mul-le-mul-right}
 use lib.IntN.{ℤ}
 use lib.ListN.{set}
 use Rattle.exponential.specs.Exponential.{expScaled}
 use Rattle.attempt.proofs.AttemptLaws.{bit-at, sample-at, attempt-written}
-use native.Mathlib.Nat.{lt-of-le-of-lt, mul-le-mul-right}
 use borrow.Author.Needs.{needs}
 use Rattle.attempt.proofs.attempt.Statement.{statement}
 use Rattle.attempt.proofs.attempt.Tie as tie
@@ -15,20 +15,11 @@ mul-attempt-words c = search needs
 attempt-words-requires : tie.Need-attempt-words-requires
 attempt-words-requires c κs = search needs
 
-low62-requires : tie.Need-low62-requires
-low62-requires c κs = search needs
-
-low62-requires-2 : tie.Need-low62-requires-2
-low62-requires-2 c κs = search needs
-
 add-scan : tie.Need-add-scan
 add-scan c = search needs
 
 scan-requires : tie.Need-scan-requires
 scan-requires c κs = search needs
-
-low8-requires : tie.Need-low8-requires
-low8-requires c κs = search needs
 
 exponent-of-requires : tie.Need-exponent-of-requires
 exponent-of-requires c κs = search needs
@@ -38,7 +29,7 @@ add-exp-listed c = search needs
 
 exp-listed-requires : tie.Need-exp-listed-requires
 exp-listed-requires c κs =
-    let s = c .before .before .before .before .before .before .before .before .before .before .before .before .before .before .before .before .before in
+    let s = c .before .before .before .before .before .before .before .before .before .before .before .before .before .before in
     (s .pre .0 .is-polynomial, lt-of-le-of-lt (mul-le-mul-right (s .args .reciprocal) (c .before .exponent-of .ensures .1)) (s .pre .0 .scales), search needs)
 
 add-note : tie.Need-add-note
@@ -48,9 +39,7 @@ note-requires : tie.Need-note-requires
 note-requires c κs = search needs
 
 judged-requires : tie.Need-judged-requires
-judged-requires c κs =
-    let s = c .before .before .before .before .before .before .before .before .before .before .before .before .before .before .before .before .before .before .before .before .before .before .before .before .before in
-    (c .before .before .before .before .before .before .before .before .before .before .before .before .before .scan .ensures .1, s .pre .1 .2)
+judged-requires c κs = (c .before .before .before .before .before .before .before .before .before .before .before .before .scan .ensures .1, c .before .before .before .before .before .before .before .before .before .before .before .before .before .before .before .before .before .before .before .before .before .before .pre .1 .2)
 
 same-length : tie.Need-same-length
 same-length c = search needs
@@ -64,19 +53,14 @@ returns c =
     let n = j .before .before .before .before in
     let e = n .before .before .before .before in
     let x = e .before .before in
-    let b = x .before in
-    let r = b .before .before .before in
-    let l = r .before .before in
-    let h = l .before in
-    let w = h .before .before .before in
-    let s = w .before .before .before .before .before .before in
+    let r = x .before .before .before in
+    let w = r .before .before .before .before in
+    let s = w .before .before .before .before .before .before .args in
     let words = w .attempt-words .ensures in
     let scanned = r .scan .ensures in (
-      bit-at (s .args .cdt .now) (s .args .words .now) (s .args .t) _ _ _ _ _ _ _ (words .0) (words .1) (words .2) (words .3) (h .low62 .ensures) (l .low622 .ensures) (scanned .0)
-          (expScaled (s .args .table .now) (s .args .reciprocal)) _ _ _ _ (b .low8 .ensures) (x .exponent-of .ensures .0) (e .exp-listed .ensures .0) (j .judged .ensures .0),
+      bit-at (s .cdt .now) (s .words .now) (s .t) _ _ _ _ _ (words .0) (words .1) (words .2) (words .3) (scanned .0) (expScaled (s .table .now) (s .reciprocal)) _ _ _ (x .exponent-of .ensures .0) (e .exp-listed .ensures .0) (j .judged .ensures .0),
       (
-        j .judged .ensures .1
-            ∙ ap (λ (z : ℤ). set (s .args .y .now) (s .args .k) z) (sample-at (s .args .cdt .now) (s .args .words .now) (s .args .t) _ _ _ _ _ _ _ (words .0) (words .1) (words .2) (words .3) (h .low62 .ensures) (l .low622 .ensures) (scanned .0)),
+        j .judged .ensures .1 ∙ ap (λ (z : ℤ). set (s .y .now) (s .k) z) (sample-at (s .cdt .now) (s .words .now) (s .t) _ _ _ (w .attempt-words .result .fourth) _ (words .0) (words .1) (words .2) (words .3) (scanned .0)),
         attempt-written _ _ _ _ _ _ _ _ (words .4) (scanned .2) (e .exp-listed .ensures .2) (n .note .ensures),
       ),
     )
@@ -87,11 +71,8 @@ attempt-spec =
     (tie.spec
     mul-attempt-words
     attempt-words-requires
-    low62-requires
-    low62-requires-2
     add-scan
     scan-requires
-    low8-requires
     exponent-of-requires
     add-exp-listed
     exp-listed-requires

@@ -1,7 +1,7 @@
 -- `attempt::attempt_words` meets its contract. Assumes nothing.
-use mathlib.Core.Path.{_≡_}
+use mathlib.Core.Path.{_≡_, ap, _∙_}
 use mathlib.Core.List.{List}
-use Prim.Native.Nat.{ℕ, suc, _+_}
+use Prim.Native.Nat.{ℕ, suc, _+_, _%_, _^_}
 use native.Mathlib.Omega.{arith}
 use lib.ListN.{set}
 use lib.Seq.{sets}
@@ -53,17 +53,23 @@ add-listed-word-6 c = search needs
 listed-word-requires-4 : tie.Need-listed-word-requires-4
 listed-word-requires-4 c κs = search needs
 
+low62-requires : tie.Need-low62-requires
+low62-requires c κs = search needs
+
+low62-requires-2 : tie.Need-low62-requires-2
+low62-requires-2 c κs = search needs
+
 same-length : tie.Need-same-length
 same-length c = search needs
 
 returns : tie.Need-returns
 returns c =
-    let d = c .before .before in
+    let d = c .before .before .before .before in
     let e = d .before .before .before .before in
     let f = e .before .before .before .before in
     let g = f .before .before .before .before in (
-      g .listed-word .ensures .0,
-      f .listed-word2 .ensures .0,
+      c .before .low62 .ensures ∙ ap (λ (w : ℕ). w % 2 ^ 62) (g .listed-word .ensures .0),
+      c .low622 .ensures ∙ ap (λ (w : ℕ). w % 2 ^ 62) (f .listed-word2 .ensures .0),
       e .listed-word3 .ensures .0,
       d .listed-word4 .ensures .0,
       four _ _ _ _ _ _ _ (g .listed-word .ensures .1) (f .listed-word2 .ensures .1) (e .listed-word3 .ensures .1) (d .listed-word4 .ensures .1),
@@ -83,5 +89,7 @@ attempt-words-spec =
     add-listed-word-5
     add-listed-word-6
     listed-word-requires-4
+    low62-requires
+    low62-requires-2
     same-length
     returns)

@@ -2,7 +2,7 @@
 use borrow.Author.Needs.{needs}
 use mathlib.Core.Path.{sym, _∙_}
 use Rattle.checks.specs.Checks.{unless}
-use Rattle.session.specs.Refusals.{openRefusal}
+use Rattle.refusals.specs.Refusals.{openRefusal}
 use Rattle.session.specs.Calls.{opened}
 use Rattle.session.proofs.Session.open.Statement.{statement}
 use Rattle.session.proofs.Session.open.Tie as tie

@@ -12,7 +12,7 @@ use Rattle.checks.proofs.Laws.{both-true, passed}
 use Rattle.exponential.specs.Exponential.{polynomial, isPolynomial}
 use Rattle.exponential.proofs.Table.{polynomial-of}
 use Rattle.base_sample.specs.BaseSample.{wordsSmall, neverFalls, isCdt}
-use Rattle.session.specs.Refusals.{drawRefusal}
+use Rattle.refusals.specs.Refusals.{drawRefusal}
 
 -- a draw
 pub record DrawServed (n limit : ℕ) (cdt table : List ℕ) (words y list : ℕ) : Type 0 where

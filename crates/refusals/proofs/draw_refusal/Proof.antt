@@ -1,4 +1,4 @@
--- `session::draw_refusal` meets its contract: a test that is reached follows on tests that hold. Assumes nothing.
+-- `refusals::draw_refusal` meets its contract: a test that is reached follows on tests that hold. Assumes nothing.
 use borrow.Author.Needs.{needs}
 use mathlib.Core.Path.{_≡_, refl, sym, _∙_}
 use mathlib.Core.Bool.{Bool, true, false, not, _&&_, _||_}
@@ -11,9 +11,9 @@ use Rattle.checks.specs.Checks.{isDegree, unless}
 use Rattle.checks.proofs.Laws.{both-true, degree-range}
 use Rattle.exponential.specs.Exponential.{isPolynomial}
 use Rattle.base_sample.specs.BaseSample.{isCdt}
-use Rattle.session.specs.Refusals.{drawRefusal}
-use Rattle.session.proofs.draw_refusal.Statement.{statement}
-use Rattle.session.proofs.draw_refusal.Tie as tie
+use Rattle.refusals.specs.Refusals.{drawRefusal}
+use Rattle.refusals.proofs.draw_refusal.Statement.{statement}
+use Rattle.refusals.proofs.draw_refusal.Tie as tie
 
 -- ** Tests joined by `|`, and the tests of the definition
 
