@@ -17,7 +17,7 @@ use Rattle.read_list.proofs.Laws.{sets-append}
 use Rattle.attempt.specs.Attempt.{bitAt, sampleAt}
 use Rattle.sampler.specs.declared.Counts.{Counts}
 use Rattle.attempt.specs.Attempt.{attemptEntries}
-use Rattle.sampler.specs.Draw.{stillWanted, bitsFrom, accepted, samplesFrom, entriesFrom, drawEntries, drawY, drawBits, sampledBy, Attempted, DrawEntriesAtMost}
+use Rattle.sampler.specs.Draw.{stillWanted, bitsFrom, accepted, samplesFrom, entriesFrom, drawEntries, drawY, drawBits, sampledBy, DrawEntriesAtMost}
 use Rattle.base_sample.proofs.Thresholds.{bit-le}
 
 -- ** The bits that are left
@@ -97,6 +97,14 @@ draw-entries-at-most e cdt words n limit want =
     omega (arith, bits-at-most (bitAt e cdt words) 0 limit want, length-entries 0 0 bits)
 
 -- ** The loop
+
+-- what the attempts of a draw with these bits leave, whether it is full or spent: the samples are the first of y
+pub record Attempted (sampleOf : ℕ → ℤ) (bits : List Bool) (before : List ℕ) (counts : Counts) (y : List ℤ) (list : List ℕ) : Type 0 where
+  pub attempts-are : counts .attempts ≡ length bits
+  pub accepted-are : counts .accepted ≡ accepted bits
+  pub entries-are : counts .entries ≡ 1 + length (entriesFrom 0 0 bits)
+  pub samples-are : take (counts .accepted) y ≡ samplesFrom sampleOf 0 bits
+  pub list-is : list ≡ sets before 1 (entriesFrom 0 0 bits)
 
 -- after t attempts with k samples accepted, the rest of the bits gives what is left
 pub record Turn (f : ℕ → Bool) (g : ℕ → ℤ) (want limit : ℕ) (y₀ : List ℤ) (list₀ : List ℕ) (y : List ℤ) (list : List ℕ) (t k at : ℕ) : Type 0 where

@@ -1,10 +1,9 @@
 -- The draw of document 01, read off the accept bits of its attempts. Assumes nothing.
-use mathlib.Core.Path.{_≡_}
 use mathlib.Core.Bool.{Bool, true, false, cond}
 use mathlib.Core.List.{List, [], _∷_, _++_}
 use Prim.Native.Nat.{ℕ, zero, suc, _+_, _*_, _≤_}
 use lib.Dec.{eqb}
-use lib.ListN.{length, take, replicate}
+use lib.ListN.{length, replicate}
 use lib.Seq.{sets}
 use lib.IntN.{ℤ, pos}
 use Rattle.arithmetic.specs.Words.{bit}
@@ -75,14 +74,6 @@ sampledBy n cdt words bits list = record {
   y = drawY cdt words (2 * n) bits;
   list = sets list 0 (drawEntries n bits);
 }
-
--- what the attempts of a draw with these bits leave, whether it is full or spent: the samples are the first of y
-pub record Attempted (sampleOf : ℕ → ℤ) (bits : List Bool) (before : List ℕ) (counts : Counts) (y : List ℤ) (list : List ℕ) : Type 0 where
-  pub attempts-are : counts .attempts ≡ length bits
-  pub accepted-are : counts .accepted ≡ accepted bits
-  pub entries-are : counts .entries ≡ 1 + length (entriesFrom 0 0 bits)
-  pub samples-are : take (counts .accepted) y ≡ samplesFrom sampleOf 0 bits
-  pub list-is : list ≡ sets before 1 (entriesFrom 0 0 bits)
 
 -- ** What follows
 

@@ -1,10 +1,10 @@
 // The draw of document 01. Accept bits alone steer its loop, and they are public.
 ghost use mathlib.Core.Path.{_≡_};
-ghost use Prim.Native.Nat.{_+_, _*_, _^_, _≤_, _<_};
+ghost use Prim.Native.Nat.{_+_, _*_, _^_, _≤_};
 ghost use lib.ListN.{length};
 ghost use Rattle.exponential.specs.Exponential.{expScaled};
-ghost use Rattle.attempt.specs.Attempt.{Tables, sampleAt};
-ghost use Rattle.sampler.specs.Draw.{drawBits, Attempted, sampledBy};
+ghost use Rattle.attempt.specs.Attempt.{Tables};
+ghost use Rattle.sampler.specs.Draw.{drawBits, sampledBy};
 
 // The counts of a draw: attempts made, samples accepted, entries listed.
 pub struct Counts {
@@ -13,41 +13,9 @@ pub struct Counts {
     pub entries: usize,
 }
 
-// Attempts, until there are as many samples as wanted or no attempt is left. A sample is always stored, and the place moves on by
-// its accept bit. Entries are listed from the index 1 of the list on.
-fn attempts(
-    want: usize,
-    limit: usize,
-    cdt: &[u64],
-    table: &[u64],
-    reciprocal: u64,
-    words: &[u64],
-    y: &mut [i32],
-    list: &mut [u32],
-) -> Counts
-    requires { ⌜ Tables (now cdt) (now table) reciprocal ⌝ }
-    requires { ⌜ (limit ≤ 2 ^ 20) × (4 * limit ≤ length (now words)) × (want ≤ length (now y)) × (want < 2 ^ 24) × (46 * limit + 2 ≤ length (now list)) ⌝ }
-    ensures { λ r. ⌜ Attempted (sampleAt (now (cdt .entry)) (now (words .entry))) (drawBits (expScaled (now (table .entry)) reciprocal) (now (cdt .entry)) (now (words .entry)) limit want) (now (list .entry)) r (now (y .exit)) (now (list .exit)) ⌝ }
-{
-    let mut t: usize = 0;
-    let mut k: usize = 0;
-    let mut at: usize = 1;
-    while (t < limit) & (k < want) {
-        let accepted = attempt::attempt(cdt, table, reciprocal, words, t, y, k, list, at);
-        k += accepted as usize;
-        at += 46;
-        t += 1;
-    }
-    read_list::note(6, k, list, at);
-    Counts {
-        attempts: t,
-        accepted: k,
-        entries: at + 1,
-    }
-}
-
-// A draw of 2n samples within a limit of attempts: y holds the samples where there are as many as wanted, else it is all zero. Entries
-// are listed from the start of the list on, and the rest of the list is unchanged.
+// A draw of 2n samples within a limit of attempts. A sample is always stored at the next place of y, and the place moves on by its
+// accept bit. y holds the samples where there are as many as wanted, else it is all zero. Entries are listed from the start of the
+// list on, and the rest of the list is unchanged.
 pub fn draw(
     degree: usize,
     limit: usize,
@@ -64,9 +32,23 @@ pub fn draw(
 {
     let want = 2 * degree;
     read_list::note(1, degree, list, 0);
-    let counts = attempts(want, limit, cdt, table, reciprocal, words, y, list);
-    let accepted = counts.accepted;
-    if accepted != want {
+    let mut t: usize = 0;
+    let mut k: usize = 0;
+    let mut at: usize = 1;
+    while (t < limit) & (k < want) {
+        let accepted = attempt::attempt(cdt, table, reciprocal, words, t, y, k, list, at);
+        k += accepted as usize;
+        at += 46;
+        t += 1;
+    }
+    read_list::note(6, k, list, at);
+    let entries = at + 1;
+    let counts = Counts {
+        attempts: t,
+        accepted: k,
+        entries,
+    };
+    if k != want {
         signed::zero_all(y);
     }
     counts
