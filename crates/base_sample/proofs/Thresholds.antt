@@ -2,7 +2,7 @@
 use mathlib.Core.Path.{_≡_, refl, sym, ap, _∙_}
 use mathlib.Core.Bool.{Bool, true, false}
 use mathlib.Core.List.{List}
-use Prim.Native.Nat.{ℕ, _+_, _-_, _*_, _^_, _≤_, _<_}
+use Prim.Native.Nat.{ℕ, _+_, _-_, _*_, _^_, _<_}
 use native.Mathlib.Numerals.{add-one}
 use native.Mathlib.Omega.{arith}
 use lib.Dec.{leb, ltb}
@@ -29,18 +29,6 @@ not-above m n = by (ltb n m) refl
     by : (t : Bool) → ltb n m ≡ t → 1 - bit t ≡ bit (leb m n)
     by true e = rw (lt-leb m n (ltb-true n m e))
     by false e = rw (le-leb m n (ltb-false n m e))
-
-pub bit-le : (t : Bool) → bit t ≤ 1
-bit-le true = omega arith
-bit-le false = omega arith
-
-pub bit-zero : (t : Bool) → bit t ≡ 0 → t ≡ false
-bit-zero true e = absurd (omega arith)
-bit-zero false e = refl
-
-pub bit-not-zero : (t : Bool) → (bit t ≡ 0 → ⊥) → t ≡ true
-bit-not-zero true h = refl
-bit-not-zero false h = absurd (h refl)
 
 pub at-or-below : (h l h′ l′ : ℕ) → l < 2 ^ 62 → l′ < 2 ^ 62 → 1 - bit (ltb (h′ * 2 ^ 64 + l′) (h * 2 ^ 64 + l)) ≡ bit (leb (h * 2 ^ 62 + l) (h′ * 2 ^ 62 + l′))
 at-or-below h l h′ l′ s s′ = ap (λ (t : Bool). 1 - bit t) (base-62 h′ l′ h l s′ s) ∙ not-above (h * 2 ^ 62 + l) (h′ * 2 ^ 62 + l′)

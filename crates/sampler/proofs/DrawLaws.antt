@@ -18,7 +18,7 @@ use Rattle.attempt.specs.Attempt.{bitAt, sampleAt}
 use Rattle.sampler.specs.declared.Counts.{Counts}
 use Rattle.attempt.specs.Attempt.{attemptEntries}
 use Rattle.sampler.specs.Draw.{stillWanted, bitsFrom, accepted, samplesFrom, entriesFrom, drawEntries, drawY, drawBits, sampledBy, DrawEntriesAtMost}
-use Rattle.base_sample.proofs.Thresholds.{bit-le}
+use Rattle.arithmetic.proofs.Bits.{bit-le}
 
 -- ** The bits that are left
 

@@ -4,7 +4,8 @@ use mathlib.Core.Path.{ap, _∙_}
 use Prim.Native.Nat.{ℕ, _-_}
 use lib.Dec.{ltb}
 use Rattle.arithmetic.specs.Words.{value}
-use Rattle.base_sample.proofs.Thresholds.{at-or-below, bit-le}
+use Rattle.arithmetic.proofs.Bits.{bit-le}
+use Rattle.base_sample.proofs.Thresholds.{at-or-below}
 use Rattle.base_sample.proofs.at_or_below.Statement.{statement}
 use Rattle.base_sample.proofs.at_or_below.Tie as tie
 

@@ -11,7 +11,8 @@ use Rattle.arithmetic.specs.Words.{bit}
 use Rattle.checks.specs.Checks.{allBelow}
 use Rattle.checks.proofs.Laws.{all-none, all-more, all-broken, all-done}
 use Rattle.base_sample.specs.BaseSample.{threshold, neverFalls}
-use Rattle.base_sample.proofs.Thresholds.{word-small, bit-zero, bit-not-zero}
+use Rattle.arithmetic.proofs.Bits.{bit-zero, bit-not-zero}
+use Rattle.base_sample.proofs.Thresholds.{word-small}
 use Rattle.base_sample.proofs.never_falls.Statement.{statement}
 use Rattle.base_sample.proofs.never_falls.Tie as tie
 

@@ -11,7 +11,8 @@ use Rattle.arithmetic.specs.Words.{bit}
 use Rattle.read_list.specs.Entries.{entry, placesUp}
 use Rattle.read_list.proofs.Laws.{placesUp-step, placesUp-end}
 use Rattle.base_sample.specs.BaseSample.{atOrBelow, baseSample}
-use Rattle.base_sample.proofs.Thresholds.{word-small, bit-le, at-or-below-next}
+use Rattle.arithmetic.proofs.Bits.{bit-le}
+use Rattle.base_sample.proofs.Thresholds.{word-small, at-or-below-next}
 use Rattle.base_sample.proofs.scan.Statement.{statement}
 use Rattle.base_sample.proofs.scan.Tie as tie
 

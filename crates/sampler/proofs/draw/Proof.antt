@@ -9,7 +9,7 @@ use Rattle.checks.proofs.Laws.{both-true}
 use Rattle.exponential.specs.Exponential.{expScaled}
 use Rattle.attempt.specs.Attempt.{bitAt, sampleAt}
 use Rattle.sampler.specs.Draw.{drawBits}
-use Rattle.base_sample.proofs.Thresholds.{bit-le}
+use Rattle.arithmetic.proofs.Bits.{bit-le}
 use Rattle.sampler.proofs.DrawLaws.{Turn, start, more, end, full, spent}
 use Rattle.sampler.proofs.draw.Statement.{statement}
 use Rattle.sampler.proofs.draw.Tie as tie
