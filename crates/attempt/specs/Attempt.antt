@@ -29,13 +29,6 @@ sample x b negative = cond negative (negℤ (pos (size x b))) (pos (size x b))
 
 -- ** Attempt t, from its four words
 
--- the tables and the number R for which an attempt is made: N is at most 1,370,625
-pub record Tables (cdt polynomialTable : List ℕ) (r : ℕ) : Type 0 where
-  pub twenty : length cdt ≡ 20
-  pub small : wordsSmall cdt ≡ true
-  pub is-polynomial : polynomialTable ≡ polynomial
-  pub scales : 1370625 * r < 2 ^ 84
-
 -- d: 62 of the first word, and 62 of the second
 abbrev pub drawAt : (words : List ℕ) (t : ℕ) → ℕ
 drawAt words t = getD words (4 * t) 0 % 2 ^ 62 * 2 ^ 62 + getD words (4 * t + 1) 0 % 2 ^ 62
@@ -59,6 +52,15 @@ bitAt e cdt words t = accepts e (baseSample cdt (drawAt words t)) (lowBitsAt wor
 -- the sample of attempt t
 unfoldable pub sampleAt : (cdt words : List ℕ) (t : ℕ) → ℤ
 sampleAt cdt words t = sample (baseSample cdt (drawAt words t)) (lowBitsAt words t) (negativeAt words t)
+
+-- ** What an attempt asks for
+
+-- the tables and the number R for which an attempt is made: N is at most 1,370,625
+pub record Tables (cdt polynomialTable : List ℕ) (r : ℕ) : Type 0 where
+  pub twenty : length cdt ≡ 20
+  pub small : wordsSmall cdt ≡ true
+  pub is-polynomial : polynomialTable ≡ polynomial
+  pub scales : 1370625 * r < 2 ^ 84
 
 -- ** The read list
 

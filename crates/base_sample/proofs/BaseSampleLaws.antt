@@ -25,7 +25,7 @@ in-order cdt e i (suc more) h = rw (add-suc i more) (le-trans (in-order cdt e i 
 
 module _ (cdt : List ℕ) (d : ℕ) where
   none : AtJust cdt d 0 0
-  none = record { among = omega arith; at-or-above = λ i h. absurd (not-suc-le-zero h); below = λ i h g. absurd (not-suc-le-zero g) }
+  none = record { at-most = omega arith; at-or-above = λ i h. absurd (not-suc-le-zero h); below = λ i h g. absurd (not-suc-le-zero g) }
 
   one-more : neverFalls cdt ≡ true → (count x : ℕ) → count < 10 → AtJust cdt d count x → AtJust cdt d (suc count) (x + bit (leb (threshold cdt count) d))
   one-more e count x h r = by (leb (threshold cdt count) d) refl
@@ -60,16 +60,16 @@ module _ (cdt : List ℕ) (d : ℕ) where
       by : (t : Bool) → leb (threshold cdt count) d ≡ t → AtJust cdt d (suc count) (x + bit t)
       by true f =
           let here = leb-true (threshold cdt count) d f in
-          let all : x ≡ count = le-antisymm (r .among) (reaches here) in
+          let all : x ≡ count = le-antisymm (r .at-most) (reaches here) in
           record {
-            among = omega (arith, r .among);
-            at-or-above = λ i g. le-trans (up-to-here i (omega (arith, g, r .among))) here;
+            at-most = omega (arith, r .at-most);
+            at-or-above = λ i g. le-trans (up-to-here i (omega (arith, g, r .at-most))) here;
             below = λ i g k. absurd (omega (arith, all, g, k));
           }
       by false f =
           let here = leb-false (threshold cdt count) d f in
           record {
-            among = omega (arith, r .among);
+            at-most = omega (arith, r .at-most);
             at-or-above = λ i g. r .at-or-above i (omega (arith, g));
             below = λ i g k. last here i (omega (arith, g)) k;
           }
@@ -86,7 +86,7 @@ module _ (cdt : List ℕ) (d : ℕ) where
       by : (t : Bool) → ltb x′ x ≡ t → x ≤ x′
       by true f =
           let h = ltb-true x′ x f in
-          absurd (lt-irrefl d (lt-of-lt-of-le (r′ .below x′ (le-refl x′) (omega (arith, r .among))) (r .at-or-above x′ h)))
+          absurd (lt-irrefl d (lt-of-lt-of-le (r′ .below x′ (le-refl x′) (omega (arith, r .at-most))) (r .at-or-above x′ h)))
       by false f = ltb-false x′ x f
 
 pub base-sample-exactly : BaseSampleExactly

@@ -42,7 +42,7 @@ baseSample cdt d = atOrBelow cdt d 10
 
 -- of the first count thresholds, d is at or above just x: the first x
 pub record AtJust (cdt : List ℕ) (d count x : ℕ) : Type 0 where
-  pub among : x ≤ count
+  pub at-most : x ≤ count
   pub at-or-above : (i : ℕ) → i < x → threshold cdt i ≤ d
   pub below : (i : ℕ) → x ≤ i → i < count → d < threshold cdt i
 

@@ -35,9 +35,9 @@ unfoldable pub accepted : List Bool → ℕ
 accepted [] = 0
 accepted (b ∷ bits) = bit b + accepted bits
 
--- full: as many samples as wanted
-abbrev pub isFull : (want : ℕ) (bits : List Bool) → Bool
-isFull want bits = eqb (accepted bits) want
+-- full: as many samples are accepted as wanted
+abbrev pub isFull : (want count : ℕ) → Bool
+isFull want count = eqb count want
 
 -- the samples that are accepted, of the attempts from t on
 unfoldable pub samplesFrom : (sampleOf : ℕ → ℤ) (t : ℕ) (bits : List Bool) → List ℤ
@@ -46,7 +46,7 @@ samplesFrom sampleOf t (b ∷ bits) = cond b (sampleOf t ∷ samplesFrom sampleO
 
 -- y after a draw: the samples where it is full, else zeros
 unfoldable pub drawY : (cdt words : List ℕ) (want : ℕ) (bits : List Bool) → List ℤ
-drawY cdt words want bits = cond (isFull want bits) (samplesFrom (sampleAt cdt words) 0 bits) (replicate want (pos 0))
+drawY cdt words want bits = cond (isFull want (accepted bits)) (samplesFrom (sampleAt cdt words) 0 bits) (replicate want (pos 0))
 
 -- ** The read list
 

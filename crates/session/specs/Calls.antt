@@ -6,7 +6,7 @@ use lib.Dec.{eqb}
 use lib.IntN.{ℤ}
 use lib.ListN.{length}
 use Rattle.exponential.specs.Exponential.{expWith, divisor}
-use Rattle.sampler.specs.Draw.{drawBits, Sampled, sampledBy}
+use Rattle.sampler.specs.Draw.{drawBits, isFull, Sampled, sampledBy}
 use Rattle.session.specs.declared.Session.{Session}
 use Rattle.session.specs.declared.Opened.{Opened}
 use Rattle.session.specs.declared.Drawn.{Drawn}
@@ -39,7 +39,7 @@ unfoldable pub drawServed : (n : ℕ) (sampled : Sampled) → DrawLeft
 drawServed n sampled = record {
   drawn = record {
     answer = record { refusal = 0; attempts = sampled .counts .attempts; accepted = sampled .counts .accepted; entries = sampled .counts .entries };
-    session = record { degree = n; drawn = eqb (sampled .counts .accepted) (2 * n) };
+    session = record { degree = n; drawn = isFull (2 * n) (sampled .counts .accepted) };
   };
   y = sampled .y;
   list = sampled .list;

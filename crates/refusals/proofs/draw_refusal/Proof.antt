@@ -2,7 +2,7 @@
 use borrow.Author.Needs.{needs}
 use mathlib.Core.Path.{_≡_, refl, sym, _∙_}
 use mathlib.Core.Bool.{Bool, true, false, not, _&&_, _||_}
-use Prim.Native.Nat.{ℕ, _*_, _≤_}
+use Prim.Native.Nat.{ℕ, _+_, _*_, _≤_}
 use native.Mathlib.Omega.{arith}
 use lib.Dec.{leb, ltb, eqb}
 use lib.ListN.{length}
@@ -128,17 +128,22 @@ limit-small c =
 
 -- ** Refusals 7 and 8
 
+-- where refusals 1 to 5 don't apply, 7 and 8 decide
+later : (c : tie.Else5) → let a = start (c .before .before .before .before .before .before) .args in
+    drawRefusal (a .n) (a .limit) (a .cdt .now) (a .polynomial .now) (a .words) (a .y) (a .list) ≡ unless (leb (4 * a .limit) (a .words)) 7 (unless (leb (46 * a .limit + 2) (a .list)) 8 0)
+unfolding drawRefusal unless
+later c =
+    let four = c .before in
+    let three = four .before in
+    let two = three .before .before .before in
+    rw (degree (two .before), sizes two, cdt three, polynomial four, limits c)
+
 mul-if6 : tie.Need-mul-if6
 mul-if6 c = omega (arith, limit-small c)
 
 returns-6 : tie.Need-returns-6
-unfolding drawRefusal unless
-returns-6 c =
-    let five = c .before in
-    let four = five .before in
-    let three = four .before in
-    let two = three .before .before .before in
-    rw (degree (two .before), sizes two, cdt three, polynomial four, limits five, lt-leb _ _ (c .if6 .taken))
+unfolding unless
+returns-6 c = sym (later (c .before) ∙ rw (lt-leb _ _ (c .if6 .taken)))
 
 mul-if7 : tie.Need-mul-if7
 mul-if7 c = omega (arith, limit-small (c .before))
@@ -147,24 +152,12 @@ add-if7 : tie.Need-add-if7
 add-if7 c = omega (arith, limit-small (c .before))
 
 returns-7 : tie.Need-returns-7
-unfolding drawRefusal unless
-returns-7 c =
-    let six = c .before in
-    let five = six .before in
-    let four = five .before in
-    let three = four .before in
-    let two = three .before .before .before in
-    rw (degree (two .before), sizes two, cdt three, polynomial four, limits five, le-leb _ _ (six .if6 .left), lt-leb _ _ (c .if7 .taken))
+unfolding unless
+returns-7 c = sym (later (c .before .before) ∙ rw (le-leb _ _ (c .before .if6 .left), lt-leb _ _ (c .if7 .taken)))
 
 returns-8 : tie.Need-returns-8
-unfolding drawRefusal unless
-returns-8 c =
-    let six = c .before in
-    let five = six .before in
-    let four = five .before in
-    let three = four .before in
-    let two = three .before .before .before in
-    rw (degree (two .before), sizes two, cdt three, polynomial four, limits five, le-leb _ _ (six .if6 .left), le-leb _ _ (c .if7 .left))
+unfolding unless
+returns-8 c = sym (later (c .before .before) ∙ rw (le-leb _ _ (c .before .if6 .left), le-leb _ _ (c .if7 .left)))
 
 pub draw-refusal-spec : {M : Type 1} → statement M
 draw-refusal-spec =
