@@ -3,6 +3,7 @@ use mathlib.Core.Path.{_≡_, refl}
 use mathlib.Core.Bool.{Bool, true, false}
 use Prim.Native.Nat.{_≤_}
 use native.Mathlib.Omega.{arith}
+use lib.Dec.{eqb}
 use Rattle.arithmetic.specs.Words.{bit}
 
 pub bit-le : (t : Bool) → bit t ≤ 1
@@ -16,3 +17,13 @@ bit-zero false e = refl
 pub bit-not-zero : (t : Bool) → (bit t ≡ 0 → ⊥) → t ≡ true
 bit-not-zero true h = refl
 bit-not-zero false h = absurd (h refl)
+
+pub bit-is-1 : (t : Bool) → eqb (bit t) 1 ≡ t
+bit-is-1 true = refl
+bit-is-1 false = refl
+
+pub bit-injective : (t u : Bool) → bit t ≡ bit u → t ≡ u
+bit-injective true true e = refl
+bit-injective true false e = absurd (omega arith)
+bit-injective false true e = absurd (omega arith)
+bit-injective false false e = refl

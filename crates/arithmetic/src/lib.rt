@@ -1,7 +1,7 @@
 // Words of 64 bits: fields cut out by masks and shifts, the product of two words, and the order of numbers of two words.
 // No function branches on its data.
 ghost use mathlib.Core.Path.{_≡_};
-ghost use Prim.Native.Nat.{_-_, _*_, _/_, _%_, _^_, _≤_, _<_};
+ghost use Prim.Native.Nat.{_-_, _*_, _/_, _%_, _^_, _≤_, _<_, min};
 ghost use lib.Dec.{ltb};
 ghost use Rattle.arithmetic.specs.Words.{value, bit};
 
@@ -23,6 +23,13 @@ pub fn low8(word: u64) -> u64
     ensures { λ r. ⌜ r ≡ word % 2 ^ 8 ⌝ }
 {
     word & 0xff
+}
+
+// Bit 0 of a word.
+pub fn bit0(word: u64) -> u64
+    ensures { λ r. ⌜ r ≡ word % 2 ⌝ }
+{
+    word & 1
 }
 
 // Bit 8 of a word.
@@ -100,6 +107,14 @@ pub fn mul_shift22(a: u64, b: u64) -> u64
     ensures { λ r. ⌜ r ≡ a * b / 2 ^ 22 ⌝ }
 {
     (a >> 22) * b + high_word(a << 42, b)
+}
+
+// The smaller of two words.
+pub fn smaller(a: u64, b: u64) -> u64
+    ensures { λ r. ⌜ r ≡ min a b ⌝ }
+{
+    let first = (a <= b) as u64;
+    a * first + b * (1 - first)
 }
 
 // 1 where the number a is below the number b, else 0. Joined by `&` and `|`, the tests compile to no jump.

@@ -1,1 +1,2 @@
 pub mod AttemptLaws
+pub mod Agreement

@@ -1,2 +1,3 @@
 pub mod Thresholds
 pub mod BaseSampleLaws
+pub mod Agreement

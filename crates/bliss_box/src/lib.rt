@@ -3,9 +3,10 @@ ghost use mathlib.Core.Path.{_≡_};
 ghost use lib.ListN.{length};
 ghost use Rattle.read_list.specs.Entries.{filledPart};
 ghost use Rattle.exponential.specs.Exponential.{expOrRefusal};
-ghost use Rattle.session.specs.Calls.{opened, drawLeft};
+ghost use Rattle.session.specs.Calls.{opened, drawLeft, respondLeft};
 use session::Drawn;
 use session::Opened;
+use session::Responded;
 use session::Session;
 
 // Opens a session of degree n.
@@ -27,9 +28,27 @@ pub extern "C" fn bliss_draw(
     y: &mut [i32],
     list: &mut [u32],
 ) -> Drawn
-    ensures { λ r. ⌜ record { drawn = r; y = now (y .exit); list = now (list .exit) } ≡ drawLeft session limit (now (cdt .entry)) (now (polynomial .entry)) (now (words .entry)) (now (y .entry)) (now (list .entry)) ⌝ }
+    ensures { λ r. ⌜ record { drawn = r; y = now (y .exit); list = now (list .exit) } ≡ drawLeft session (record { limit = limit; cdt = now (cdt .entry); polynomial = now (polynomial .entry); words = now (words .entry); y = now (y .entry); list = now (list .entry) }) ⌝ }
 {
     session.draw(limit, cdt, polynomial, words, y, list)
+}
+
+// Responds to a challenge: z holds the response where the bit is 1, else it is all zero, and y becomes all zero. The reads are listed from
+// the start of the list on.
+#[no_mangle]
+pub extern "C" fn bliss_respond(
+    session: Session,
+    challenge: &[u32],
+    polynomial: &[u64],
+    words: &[u64],
+    key: &[i32],
+    y: &mut [i32],
+    z: &mut [i32],
+    list: &mut [u32],
+) -> Responded
+    ensures { λ r. ⌜ record { responded = r; y = now (y .exit); z = now (z .exit); list = now (list .exit) } ≡ respondLeft session (record { challenge = now (challenge .entry); polynomial = now (polynomial .entry); words = now (words .entry); key = now (key .entry); y = now (y .entry); z = now (z .entry); list = now (list .entry) }) ⌝ }
+{
+    session.respond(challenge, polynomial, words, key, y, z, list)
 }
 
 // The length of the filled part of a list, for a count. The part starts where the list starts.

@@ -1,6 +1,6 @@
 -- Laws of the tests: degrees, tests at every number below another, and refusals. Assumes nothing.
 use mathlib.Core.Path.{_≡_, refl, sym, ap, _∙_}
-use mathlib.Core.Bool.{Bool, true, false, _&&_, _||_, or-true, and-eq-true-iff, false≢true}
+use mathlib.Core.Bool.{Bool, true, false, not, _&&_, _||_, or-true, and-eq-true-iff, false≢true}
 use mathlib.Core.List.{List, [], _∷_}
 use mathlib.Core.Logic.{inl, inr, ⊎-elim}
 use types.Run.{OneOf}
@@ -9,7 +9,7 @@ use native.Mathlib.Nat.{not-suc-le-zero, le-of-suc-le-suc, le-antisymm}
 use native.Mathlib.Numerals.{add-one}
 use native.Mathlib.Omega.{arith}
 use lib.Dec.{leb, ltb, eqb}
-use borrow.Author.Tests.{eq-eqb, ne-eqb, eqb-true, leb-true, ltb-true, ltb-false}
+use borrow.Author.Tests.{eq-eqb, ne-eqb, eqb-true, leb-true, ltb-true, ltb-false, lt-leb, le-leb}
 use Rattle.checks.specs.Checks.{among, degrees, isDegree, allBelow, unless}
 
 -- ** Two tests in one
@@ -20,6 +20,23 @@ both-true a b h = and-eq-true-iff a b .0 h
 and-false : (a : Bool) → (a && false) ≡ false
 and-false true = refl
 and-false false = refl
+
+-- what code tests by `|` and `<`, as the definitions have it: by `&&` and `leb`
+pub three-fail : (a b c : Bool) → ((not a || not b) || not c) ≡ not (a && (b && c))
+three-fail true true c = refl
+three-fail true false c = refl
+three-fail false b c = refl
+
+pub four-fail : (a b c d : Bool) → (((not a || not b) || not c) || not d) ≡ not (a && (b && (c && d)))
+four-fail true b c d = three-fail b c d
+four-fail false b c d = refl
+
+pub below-not-above : (a b : ℕ) → ltb a b ≡ not (leb b a)
+below-not-above a b = by (ltb a b) refl
+  where
+    by : (t : Bool) → ltb a b ≡ t → t ≡ not (leb b a)
+    by true e = rw (lt-leb b a (ltb-true a b e))
+    by false e = rw (le-leb b a (ltb-false a b e))
 
 -- ** Degrees
 
@@ -97,6 +114,14 @@ module _ (test : ℕ → Bool) where
       by false f = absurd (false≢true (sym (all-broken i n h f) ∙ e))
 
 -- ** Refusals
+
+pub refused : (test : Bool) (refusal later : ℕ) → test ≡ false → unless test refusal later ≡ refusal
+unfolding unless
+refused test refusal later e = rw e
+
+pub not-refused : (test : Bool) (refusal later : ℕ) → test ≡ true → unless test refusal later ≡ later
+unfolding unless
+not-refused test refusal later e = rw e
 
 -- where nothing is refused, a test holds and the later ones refuse nothing
 pub passed : (test : Bool) (refusal later : ℕ) → 0 < refusal → unless test refusal later ≡ 0 → (test ≡ true) × (later ≡ 0)

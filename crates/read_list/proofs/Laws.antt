@@ -1,6 +1,6 @@
 -- Entries taken apart, and entries written one after the other. Assumes nothing.
 use mathlib.Core.Path.{_≡_, refl, sym, ap, _∙_}
-use mathlib.Core.List.{List, [], _∷_, _++_}
+use mathlib.Core.List.{List, [], _∷_, _++_, append-nil}
 use Prim.Native.Nat.{ℕ, zero, suc, _+_, _-_, _^_, _≤_, _<_}
 use native.Mathlib.Nat.{not-suc-le-zero, add-zero, zero-add, add-suc, suc-add}
 use native.Mathlib.Numerals.{add-one}
@@ -8,7 +8,7 @@ use native.Mathlib.Omega.{arith}
 use borrow.Author.Tests.{le-leb}
 use lib.Arith.{digits-div, digits-mod}
 use lib.ListN.{length, drop, set}
-use lib.Seq.{sets, sets-eq, length-sets, take-append-seam}
+use lib.Seq.{sets, sets-eq, length-sets, take-append-seam, drop-length}
 use Rattle.read_list.specs.Entries.{entry, kindOf, placeOf, placesUp, placesDown, filledPart}
 
 -- ** An entry taken apart
@@ -32,11 +32,17 @@ length-placesDown kind zero = refl
 length-placesDown kind (suc count) = ap suc (length-placesDown kind count)
 
 -- entries written one after the other
-pub sets-append : (list : List ℕ) (at : ℕ) (es fs : List ℕ) → sets list at (es ++ fs) ≡ sets (sets list at es) (at + length es) fs
+pub sets-append : {A : Type 0} (list : List A) (at : ℕ) (es fs : List A) → sets list at (es ++ fs) ≡ sets (sets list at es) (at + length es) fs
 sets-append list at [] fs = ap (λ (i : ℕ). sets list i fs) (sym (add-zero at))
 sets-append list at (e ∷ es) fs =
     sets-append (set list at e) (suc at) es fs
     ∙ ap (λ (i : ℕ). sets (sets (set list at e) (suc at) es) i fs) (suc-add at (length es) ∙ sym (add-suc at (length es)))
+
+-- what is written over a whole list
+pub sets-whole : {A : Type 0} (list es : List A) → length es ≡ length list → sets list 0 es ≡ es
+sets-whole list es h =
+    let all : 0 + length es ≡ length list = omega (arith, h) in
+    sets-eq es list 0 (omega (arith, h)) ∙ ap (λ (k : ℕ). es ++ drop k list) all ∙ ap (λ (rest : List _). es ++ rest) (drop-length list) ∙ append-nil es
 
 -- ** Entries written one by one, the lowest place first
 

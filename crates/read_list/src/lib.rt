@@ -2,6 +2,7 @@
 ghost use mathlib.Core.Path.{_≡_};
 ghost use Prim.Native.Nat.{_<_, _^_};
 ghost use lib.ListN.{length, getD, set};
+ghost use lib.IntN.{pos};
 ghost use Rattle.read_list.specs.Entries.{entry, filledPart};
 
 // Writes the entry (kind, place) at the index `at` of a list; the rest of the list is unchanged.
@@ -19,6 +20,15 @@ pub fn listed_word(table: &[u64], kind: u32, place: usize, list: &mut [u32], at:
 {
     note(kind, place, list, at);
     table[place]
+}
+
+// The value at a place of a lent key, with its entry written at the index `at` of a list; the rest of the list is unchanged.
+pub fn listed_value(key: &[i32], kind: u32, place: usize, list: &mut [u32], at: usize) -> i32
+    requires { ⌜ (place < length (now key)) × (kind < 2 ^ 8) × (place < 2 ^ 24) × (at < length (now list)) ⌝ }
+    ensures { λ r. ⌜ (r ≡ getD (now (key .entry)) place (pos 0)) × (now (list .exit) ≡ set (now (list .entry)) at (entry kind place)) ⌝ }
+{
+    note(kind, place, list, at);
+    key[place]
 }
 
 // The filled part of a list: the part of the lent list itself, up to the count; over the list's length, the empty part.

@@ -1,18 +1,22 @@
 -- What is known of a call that is not refused. Assumes nothing.
 use mathlib.Core.Path.{_≡_}
-use mathlib.Core.Bool.{true, _&&_}
+use mathlib.Core.Bool.{Bool, true, _&&_}
 use mathlib.Core.List.{List}
 use Prim.Native.Nat.{ℕ, _+_, _*_, _≤_}
 use native.Mathlib.Omega.{arith}
 use lib.Dec.{leb, eqb}
+use lib.IntN.{ℤ}
 use lib.ListN.{length}
 use borrow.Author.Tests.{eqb-true, leb-true}
+use Rattle.signed.specs.Vectors.{allWithin}
 use Rattle.checks.specs.Checks.{isDegree}
 use Rattle.checks.proofs.Laws.{both-true, passed}
 use Rattle.exponential.specs.Exponential.{polynomial, isPolynomial}
 use Rattle.exponential.proofs.Table.{polynomial-of}
 use Rattle.base_sample.specs.BaseSample.{wordsSmall, neverFalls, isCdt}
-use Rattle.refusals.specs.Refusals.{drawRefusal}
+use Rattle.challenge.specs.Challenge.{positionsBelow, ascends, isChallenge}
+use Rattle.challenge.proofs.Positions.{challenge-of}
+use Rattle.refusals.specs.Refusals.{drawRefusal, respondRefusal}
 
 -- a draw
 pub record DrawServed (n limit : ℕ) (cdt table : List ℕ) (words y list : ℕ) : Type 0 where
@@ -51,4 +55,52 @@ draw-served n limit cdt table words y list h =
       limit-high = leb-true limit (32 * n) (limits .1);
       words-enough = leb-true (4 * limit) words (p7 .0);
       list-enough = leb-true (46 * limit + 2) list (p8 .0);
+    }
+
+-- a respond
+pub record RespondServed (n : ℕ) (drawn : Bool) (challenge table : List ℕ) (words : ℕ) (key y : List ℤ) (z list : ℕ) : Type 0 where
+  pub degree : isDegree n ≡ true
+  pub is-polynomial : table ≡ polynomial
+  pub y-both : length y ≡ 2 * n
+  pub z-both : z ≡ 2 * n
+  pub key-both : length key ≡ 2 * n
+  pub few : length challenge ≤ 64
+  pub below : positionsBelow n challenge ≡ true
+  pub ascending : ascends challenge ≡ true
+  pub words-enough : 3 ≤ words
+  pub list-enough : 2 * n * length challenge + 47 ≤ list
+  pub is-drawn : drawn ≡ true
+  pub key-small : allWithin 7 key ≡ true
+  pub y-small : allWithin 2815 y ≡ true
+
+pub respond-served : (n : ℕ) (drawn : Bool) (challenge table : List ℕ) (words : ℕ) (key y : List ℤ) (z list : ℕ) → respondRefusal n drawn challenge table words key y z list ≡ 0
+    → RespondServed n drawn challenge table words key y z list
+unfolding respondRefusal
+respond-served n drawn challenge table words key y z list h =
+    let p1 = passed (isDegree n) 1 _ (omega arith) h in
+    let p2 = passed (eqb (length table) 21 && (eqb (length y) (2 * n) && (eqb z (2 * n) && eqb (length key) (2 * n)))) 2 _ (omega arith) (p1 .1) in
+    let p4 = passed (isPolynomial table) 4 _ (omega arith) (p2 .1) in
+    let p6 = passed (isChallenge n challenge) 6 _ (omega arith) (p4 .1) in
+    let p7 = passed (leb 3 words) 7 _ (omega arith) (p6 .1) in
+    let p8 = passed (leb (2 * n * length challenge + 47) list) 8 _ (omega arith) (p7 .1) in
+    let p9 = passed drawn 9 _ (omega arith) (p8 .1) in
+    let p10 = passed (allWithin 7 key) 10 _ (omega arith) (p9 .1) in
+    let p11 = passed (allWithin 2815 y) 11 _ (omega arith) (p10 .1) in
+    let sizes = both-true (eqb (length y) (2 * n)) _ (both-true (eqb (length table) 21) _ (p2 .0) .1) in
+    let z-key = both-true (eqb z (2 * n)) (eqb (length key) (2 * n)) (sizes .1) in
+    let positions = challenge-of n challenge (p6 .0) in
+    record {
+      degree = p1 .0;
+      is-polynomial = polynomial-of table (p4 .0);
+      y-both = eqb-true (length y) (2 * n) (sizes .0);
+      z-both = eqb-true z (2 * n) (z-key .0);
+      key-both = eqb-true (length key) (2 * n) (z-key .1);
+      few = positions .few;
+      below = positions .below;
+      ascending = positions .ascending;
+      words-enough = leb-true 3 words (p7 .0);
+      list-enough = leb-true (2 * n * length challenge + 47) list (p8 .0);
+      is-drawn = p9 .0;
+      key-small = p10 .0;
+      y-small = p11 .0;
     }

@@ -1,12 +1,15 @@
 -- The refusals of document 01: of each call, the first that applies, or 0 where it is served. Assumes nothing.
-use mathlib.Core.Bool.{_&&_}
+use mathlib.Core.Bool.{Bool, _&&_}
 use mathlib.Core.List.{List}
 use Prim.Native.Nat.{ℕ, _+_, _*_}
 use lib.Dec.{leb, eqb}
+use lib.IntN.{ℤ}
 use lib.ListN.{length}
+use Rattle.signed.specs.Vectors.{allWithin}
 use Rattle.checks.specs.Checks.{isDegree, unless}
 use Rattle.exponential.specs.Exponential.{isPolynomial}
 use Rattle.base_sample.specs.BaseSample.{isCdt}
+use Rattle.challenge.specs.Challenge.{isChallenge}
 
 -- opening
 unfoldable pub openRefusal : (n : ℕ) → ℕ
@@ -23,3 +26,17 @@ drawRefusal n limit cdt polynomial words y list =
     (unless (leb (4 * limit) words) 7
     (unless (leb (46 * limit + 2) list) 8
     0))))))
+
+-- responding; of the words, z and the list it looks at the lengths alone
+unfoldable pub respondRefusal : (n : ℕ) (drawn : Bool) (challenge polynomial : List ℕ) (words : ℕ) (key y : List ℤ) (z list : ℕ) → ℕ
+respondRefusal n drawn challenge polynomial words key y z list =
+    unless (isDegree n) 1
+    (unless (eqb (length polynomial) 21 && (eqb (length y) (2 * n) && (eqb z (2 * n) && eqb (length key) (2 * n)))) 2
+    (unless (isPolynomial polynomial) 4
+    (unless (isChallenge n challenge) 6
+    (unless (leb 3 words) 7
+    (unless (leb (2 * n * length challenge + 47) list) 8
+    (unless drawn 9
+    (unless (allWithin 7 key) 10
+    (unless (allWithin 2815 y) 11
+    0))))))))

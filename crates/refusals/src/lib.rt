@@ -1,6 +1,6 @@
 // The refusals of calls: of each call, the first that applies.
 ghost use mathlib.Core.Path.{_≡_};
-ghost use Rattle.refusals.specs.Refusals.{drawRefusal};
+ghost use Rattle.refusals.specs.Refusals.{drawRefusal, respondRefusal};
 
 // The first refusal of a draw that applies, or 0. Sizes are multiplied only after their factors are found small.
 pub fn draw_refusal(
@@ -36,6 +36,54 @@ pub fn draw_refusal(
     }
     if list < 46 * limit + 2 {
         return 8;
+    }
+    0
+}
+
+// The first refusal of a respond that applies, or 0. Key and y are looked at whole, whatever their values are.
+pub fn respond_refusal(
+    n: usize,
+    drawn: bool,
+    challenge: &[u32],
+    polynomial: &[u64],
+    words: usize,
+    key: &[i32],
+    y: &[i32],
+    z: usize,
+    list: usize,
+) -> u32
+    ensures { λ r. ⌜ r ≡ respondRefusal n drawn (now (challenge .entry)) (now (polynomial .entry)) words (now (key .entry)) (now (y .entry)) z list ⌝ }
+{
+    if !checks::is_degree(n) {
+        return 1;
+    }
+    let both = 2 * n;
+    if (polynomial.len() != 21) | (y.len() != both) | (z != both) | (key.len() != both) {
+        return 2;
+    }
+    if !exponential::is_polynomial(polynomial) {
+        return 4;
+    }
+    if !challenge::is_challenge(n, challenge) {
+        return 6;
+    }
+    if words < 3 {
+        return 7;
+    }
+    let list_short = list < both * challenge.len() + 47;
+    if list_short {
+        return 8;
+    }
+    let key_small = signed::all_within(key, 7);
+    let y_small = signed::all_within(y, 2815);
+    if !drawn {
+        return 9;
+    }
+    if !key_small {
+        return 10;
+    }
+    if !y_small {
+        return 11;
     }
     0
 }

@@ -1,1 +1,3 @@
 pub mod DrawLaws
+pub mod DrawTells
+pub mod Agreement

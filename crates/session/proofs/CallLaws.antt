@@ -1,73 +1,54 @@
--- What calls leave, by how they end, and what follows for every call. Assumes nothing.
-use mathlib.Core.Path.{_≡_, refl, sym, ap}
-use mathlib.Core.Bool.{Bool, true, false, cond}
-use mathlib.Core.List.{List}
-use Prim.Native.Nat.{ℕ, _+_, _*_, _≤_}
-use native.Mathlib.Nat.{le-trans}
+-- What follows for every call, refused or served. Assumes nothing.
+use mathlib.Core.Path.{refl}
+use mathlib.Core.Logic.{⊎-elim}
 use native.Mathlib.Omega.{arith}
-use lib.Dec.{eqb}
-use lib.IntN.{ℤ}
-use lib.ListN.{length}
-use borrow.Author.Tests.{eq-eqb, ne-eqb, eqb-true, eqb-false}
-use Rattle.exponential.specs.Exponential.{expScaled, expWith, divisor}
-use Rattle.exponential.proofs.Table.{reciprocal-215}
-use Rattle.sampler.specs.Draw.{drawBits, Sampled, sampledBy}
-use Rattle.sampler.proofs.DrawLaws.{draw-entries-at-most}
-use Rattle.session.specs.declared.Session.{Session}
-use Rattle.refusals.specs.Refusals.{drawRefusal}
-use Rattle.session.specs.Calls.{DrawLeft, drawRefused, drawServed, drawLeft}
-use Rattle.session.specs.CallLaws.{DrawCountsEntries, DrawKeepsDegree, RefusedDrawTouchesNothing}
-use Rattle.refusals.proofs.Served.{draw-served}
+use Rattle.sampler.specs.Draw.{sampledBy}
+use Rattle.response.specs.Response.{respondedBy}
+use Rattle.response.proofs.RespondTells.{length-respondEntries}
+use Rattle.session.specs.Calls.{refusalOfDraw, drawRefused, drawServed, refusalOfRespond, bitOfRespond, respondRefused, respondServed}
+use Rattle.session.specs.CallLaws.{DrawCountsEntries, DrawKeepsDegree, RefusedDrawTouchesNothing, RespondCountsEntries, RespondKeepsDegree, RefusedRespondTouchesNothing}
+use Rattle.session.proofs.Calls.{zero-or-not, served-draw-leaves, refused-draw-leaves, draw-entries-few, draw-entries-fit, served-respond-leaves, refused-respond-leaves, respond-entries-fit}
 
--- e(N) by R at deviation 215
-by-215 : (table : List ℕ) → expScaled table 3269134179596076729 ≡ expWith table divisor
-unfolding expWith
-by-215 table = ap (λ (r : ℕ). expScaled table r) (sym reciprocal-215)
-
-module _ (s : Session) (limit : ℕ) (cdt polynomial words : List ℕ) (y : List ℤ) (list : List ℕ) (refusal : ℕ) (e : refusal ≡ drawRefusal (s .degree) limit cdt polynomial (length words) (length y) (length list)) where
-  pub draw-refused : (refusal ≡ 0 → ⊥) → drawRefused refusal s y list ≡ drawLeft s limit cdt polynomial words y list
-  unfolding drawLeft
-  draw-refused h = rw (← e, ne-eqb refusal 0 h)
-
-  pub draw-sampled : refusal ≡ 0 → (sampled : Sampled) → sampled ≡ sampledBy (s .degree) cdt words (drawBits (expScaled polynomial 3269134179596076729) cdt words limit (2 * s .degree)) list
-      → drawServed (s .degree) sampled ≡ drawLeft s limit cdt polynomial words y list
-  unfolding drawLeft
-  draw-sampled z sampled h = rw (← e, eq-eqb refusal 0 z, h, by-215 polynomial)
-
--- ** What follows for every call
-
--- either way that a draw ends
-by-refusal : (P : DrawLeft → Type 0) (s : Session) (limit : ℕ) (cdt polynomial words : List ℕ) (y : List ℤ) (list : List ℕ) → let refusal = drawRefusal (s .degree) limit cdt polynomial (length words) (length y) (length list) in
-    ((refusal ≡ 0 → ⊥) → P (drawRefused refusal s y list))
-    → (refusal ≡ 0 → P (drawServed (s .degree) (sampledBy (s .degree) cdt words (drawBits (expWith polynomial divisor) cdt words limit (2 * s .degree)) list)))
-    → P (drawLeft s limit cdt polynomial words y list)
-unfolding drawLeft
-by-refusal P s limit cdt polynomial words y list refused served = by (eqb refusal 0) refl
-  where
-    refusal : ℕ
-    refusal = drawRefusal (s .degree) limit cdt polynomial (length words) (length y) (length list)
-
-    by : (t : Bool) → eqb refusal 0 ≡ t → P (cond t (drawServed (s .degree) (sampledBy (s .degree) cdt words (drawBits (expWith polynomial divisor) cdt words limit (2 * s .degree)) list)) (drawRefused refusal s y list))
-    by true e = served (eqb-true refusal 0 e)
-    by false e = refused (eqb-false refusal 0 e)
+-- ** A draw
 
 pub draw-counts-entries : DrawCountsEntries
-unfolding drawRefused drawServed sampledBy
-draw-counts-entries s limit cdt polynomial words y list =
-    by-refusal (λ (left : DrawLeft). (left .drawn .answer .entries ≤ 46 * limit + 2) × (left .drawn .answer .entries ≤ length list)) s limit cdt polynomial words y list
-    (λ h. (omega arith, omega arith))
-    (λ h.
-    let few = draw-entries-at-most (expWith polynomial divisor) cdt words (s .degree) limit (2 * s .degree) in
-    let room = draw-served (s .degree) limit cdt polynomial (length words) (length y) (length list) h .list-enough in
-    (few, le-trans few room))
+unfolding drawServed drawRefused sampledBy
+draw-counts-entries s d =
+    ⊎-elim
+    (λ h. rw (served-draw-leaves s d h) (draw-entries-few s d, draw-entries-fit s d h))
+    (λ h. rw (refused-draw-leaves s d h) (omega arith, omega arith))
+    (zero-or-not (refusalOfDraw s d))
 
 pub draw-keeps-degree : DrawKeepsDegree
-unfolding drawRefused drawServed
-draw-keeps-degree s limit cdt polynomial words y list = by-refusal (λ (left : DrawLeft). left .drawn .session .degree ≡ s .degree) s limit cdt polynomial words y list (λ h. refl) (λ h. refl)
+unfolding drawServed drawRefused
+draw-keeps-degree s d = ⊎-elim (λ h. rw (served-draw-leaves s d h)) (λ h. rw (refused-draw-leaves s d h)) (zero-or-not (refusalOfDraw s d))
 
 pub refused-draw-touches-nothing : RefusedDrawTouchesNothing
-unfolding drawRefused drawServed
-refused-draw-touches-nothing s limit cdt polynomial words y list =
-    by-refusal (λ (left : DrawLeft). (left .drawn .answer .refusal ≡ 0 → ⊥) → left ≡ drawRefused (left .drawn .answer .refusal) s y list) s limit cdt polynomial words y list
-    (λ h g. refl)
-    (λ h g. absurd (g refl))
+unfolding drawServed drawRefused
+refused-draw-touches-nothing s d =
+    ⊎-elim
+    (λ h. rw (served-draw-leaves s d h) (λ g. absurd (g refl)))
+    (λ h. rw (refused-draw-leaves s d h) (λ g. refl))
+    (zero-or-not (refusalOfDraw s d))
+
+-- ** A respond
+
+pub respond-counts-entries : RespondCountsEntries
+unfolding respondServed respondRefused respondedBy
+respond-counts-entries s r =
+    ⊎-elim
+    (λ h. rw (served-respond-leaves s r h) ((λ g. length-respondEntries (s .degree) (bitOfRespond s r) (r .challenge)), respond-entries-fit s r h))
+    (λ h. rw (refused-respond-leaves s r h) ((λ g. absurd (h g)), omega arith))
+    (zero-or-not (refusalOfRespond s r))
+
+pub respond-keeps-degree : RespondKeepsDegree
+unfolding respondServed respondRefused
+respond-keeps-degree s r = ⊎-elim (λ h. rw (served-respond-leaves s r h)) (λ h. rw (refused-respond-leaves s r h)) (zero-or-not (refusalOfRespond s r))
+
+pub refused-respond-touches-nothing : RefusedRespondTouchesNothing
+unfolding respondServed respondRefused
+refused-respond-touches-nothing s r =
+    ⊎-elim
+    (λ h. rw (served-respond-leaves s r h) (λ g. absurd (g refl)))
+    (λ h. rw (refused-respond-leaves s r h) (λ g. refl))
+    (zero-or-not (refusalOfRespond s r))

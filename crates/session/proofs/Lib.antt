@@ -1,1 +1,7 @@
+pub mod Deviation
+pub mod Calls
 pub mod CallLaws
+pub mod Rendering
+pub mod SameCalls
+pub mod Demand3
+pub mod Demand3Instance

@@ -1,24 +1,36 @@
 -- What follows for every call, refused or served. Assumes nothing.
 use mathlib.Core.Path.{_≡_}
-use mathlib.Core.List.{List}
 use Prim.Native.Nat.{ℕ, _+_, _*_, _≤_}
-use lib.IntN.{ℤ}
 use lib.ListN.{length}
 use Rattle.session.specs.declared.Session.{Session}
-use Rattle.session.specs.Calls.{drawRefused, drawLeft}
+use Rattle.session.specs.Calls.{Draw, drawRefused, drawLeft, Respond, respondRefused, respondLeft}
 
--- a draw's count of entries is at most 46L + 2, and at most the length of its list
+-- ** A draw
+
+-- its count of entries is at most 46L + 2, and at most the length of its list
 abbrev pub DrawCountsEntries : Type 0
-DrawCountsEntries =
-    (s : Session) (limit : ℕ) (cdt polynomial words : List ℕ) (y : List ℤ) (list : List ℕ) → let count = drawLeft s limit cdt polynomial words y list .drawn .answer .entries in
-    (count ≤ 46 * limit + 2) × (count ≤ length list)
+DrawCountsEntries = (s : Session) (d : Draw) → let count = drawLeft s d .drawn .answer .entries in (count ≤ 46 * d .limit + 2) × (count ≤ length (d .list))
 
--- a draw keeps the degree
+-- it keeps the degree
 abbrev pub DrawKeepsDegree : Type 0
-DrawKeepsDegree = (s : Session) (limit : ℕ) (cdt polynomial words : List ℕ) (y : List ℤ) (list : List ℕ) → drawLeft s limit cdt polynomial words y list .drawn .session .degree ≡ s .degree
+DrawKeepsDegree = (s : Session) (d : Draw) → drawLeft s d .drawn .session .degree ≡ s .degree
 
--- a draw that is refused leaves everything as it was, and counts nothing
+-- refused, it leaves everything as it was, and counts nothing
 abbrev pub RefusedDrawTouchesNothing : Type 0
-RefusedDrawTouchesNothing =
-    (s : Session) (limit : ℕ) (cdt polynomial words : List ℕ) (y : List ℤ) (list : List ℕ) → let left = drawLeft s limit cdt polynomial words y list in
-    (left .drawn .answer .refusal ≡ 0 → ⊥) → left ≡ drawRefused (left .drawn .answer .refusal) s y list
+RefusedDrawTouchesNothing = (s : Session) (d : Draw) → let left = drawLeft s d in (left .drawn .answer .refusal ≡ 0 → ⊥) → left ≡ drawRefused (left .drawn .answer .refusal) s d
+
+-- ** A respond
+
+-- its count of entries is just 2n times the length of the challenge and 47 where it is served, and at most the length of its list
+abbrev pub RespondCountsEntries : Type 0
+RespondCountsEntries =
+    (s : Session) (r : Respond) → let answer = respondLeft s r .responded .answer in
+    (answer .refusal ≡ 0 → answer .entries ≡ 2 * s .degree * length (r .challenge) + 47) × (answer .entries ≤ length (r .list))
+
+-- it keeps the degree
+abbrev pub RespondKeepsDegree : Type 0
+RespondKeepsDegree = (s : Session) (r : Respond) → respondLeft s r .responded .session .degree ≡ s .degree
+
+-- refused, it leaves everything as it was, and counts nothing
+abbrev pub RefusedRespondTouchesNothing : Type 0
+RefusedRespondTouchesNothing = (s : Session) (r : Respond) → let left = respondLeft s r in (left .responded .answer .refusal ≡ 0 → ⊥) → left ≡ respondRefused (left .responded .answer .refusal) s r

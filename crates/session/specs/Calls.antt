@@ -1,5 +1,5 @@
 -- What each call of document 01 gives and leaves, for every input. Assumes nothing.
-use mathlib.Core.Bool.{false, cond}
+use mathlib.Core.Bool.{Bool, false, cond}
 use mathlib.Core.List.{List}
 use Prim.Native.Nat.{ℕ, _*_}
 use lib.Dec.{eqb}
@@ -7,10 +7,13 @@ use lib.IntN.{ℤ}
 use lib.ListN.{length}
 use Rattle.exponential.specs.Exponential.{expWith, divisor}
 use Rattle.sampler.specs.Draw.{drawBits, isFull, Sampled, sampledBy}
+use Rattle.challenge.specs.Product.{product}
+use Rattle.response.specs.Response.{responseZ, responseBit, Response, respondedBy}
+use Rattle.refusals.specs.Refusals.{openRefusal, drawRefusal, respondRefusal}
 use Rattle.session.specs.declared.Session.{Session}
 use Rattle.session.specs.declared.Opened.{Opened}
 use Rattle.session.specs.declared.Drawn.{Drawn}
-use Rattle.refusals.specs.Refusals.{openRefusal, drawRefusal}
+use Rattle.session.specs.declared.Responded.{Responded}
 
 -- ** Opening
 
@@ -20,18 +23,35 @@ opened n = record { refusal = openRefusal n; session = record { degree = cond (e
 
 -- ** Drawing
 
+-- a draw: its limit, and all that it is lent
+pub record Draw : Type 0 where
+  pub limit : ℕ
+  pub cdt : List ℕ
+  pub polynomial : List ℕ
+  pub words : List ℕ
+  pub y : List ℤ
+  pub list : List ℕ
+
 -- what a draw leaves: the answer with the next session, y and the list
 pub record DrawLeft : Type 0 where
   pub drawn : Drawn
   pub y : List ℤ
   pub list : List ℕ
 
+-- the first refusal that applies, or 0
+unfoldable pub refusalOfDraw : (s : Session) (d : Draw) → ℕ
+refusalOfDraw s d = drawRefusal (s .degree) (d .limit) (d .cdt) (d .polynomial) (length (d .words)) (length (d .y)) (length (d .list))
+
+-- the accept bits of its attempts, by e(N) over the lent polynomial table, at deviation 215
+unfoldable pub bitsOfDraw : (s : Session) (d : Draw) → List Bool
+bitsOfDraw s d = drawBits (expWith (d .polynomial) divisor) (d .cdt) (d .words) (d .limit) (2 * s .degree)
+
 -- refused: its number, with 0 for every count; the session, y and the list stay
-unfoldable pub drawRefused : (refusal : ℕ) (s : Session) (y : List ℤ) (list : List ℕ) → DrawLeft
-drawRefused refusal s y list = record {
+unfoldable pub drawRefused : (refusal : ℕ) (s : Session) (d : Draw) → DrawLeft
+drawRefused refusal s d = record {
   drawn = record { answer = record { refusal = refusal; attempts = 0; accepted = 0; entries = 0 }; session = s };
-  y = y;
-  list = list;
+  y = d .y;
+  list = d .list;
 }
 
 -- served: the counts, y and the list are those of the sampling; full sets drawn, and spent clears it
@@ -45,12 +65,68 @@ drawServed n sampled = record {
   list = sampled .list;
 }
 
--- a draw, whose bits are by e(N) over the lent polynomial table, at deviation 215
-unfoldable pub drawLeft : (s : Session) (limit : ℕ) (cdt polynomial words : List ℕ) (y : List ℤ) (list : List ℕ) → DrawLeft
-drawLeft s limit cdt polynomial words y list = by (drawRefusal (s .degree) limit cdt polynomial (length words) (length y) (length list))
-  where
-    by : (refusal : ℕ) → DrawLeft
-    by refusal =
-        cond (eqb refusal 0)
-        (drawServed (s .degree) (sampledBy (s .degree) cdt words (drawBits (expWith polynomial divisor) cdt words limit (2 * s .degree)) list))
-        (drawRefused refusal s y list)
+-- a draw
+unfoldable pub drawLeft : (s : Session) (d : Draw) → DrawLeft
+drawLeft s d =
+    cond (eqb (refusalOfDraw s d) 0)
+    (drawServed (s .degree) (sampledBy (s .degree) (d .cdt) (d .words) (bitsOfDraw s d) (d .list)))
+    (drawRefused (refusalOfDraw s d) s d)
+
+-- ** Responding
+
+-- a respond: its challenge, and all that it is lent
+pub record Respond : Type 0 where
+  pub challenge : List ℕ
+  pub polynomial : List ℕ
+  pub words : List ℕ
+  pub key : List ℤ
+  pub y : List ℤ
+  pub z : List ℤ
+  pub list : List ℕ
+
+-- what a respond leaves: the answer with the next session, y, z and the list
+pub record RespondLeft : Type 0 where
+  pub responded : Responded
+  pub y : List ℤ
+  pub z : List ℤ
+  pub list : List ℕ
+
+-- the first refusal that applies, or 0
+unfoldable pub refusalOfRespond : (s : Session) (r : Respond) → ℕ
+refusalOfRespond s r = respondRefusal (s .degree) (s .drawn) (r .challenge) (r .polynomial) (length (r .words)) (r .key) (r .y) (length (r .z)) (length (r .list))
+
+-- its bit, by e(N) over the lent polynomial table, at deviation 215
+unfoldable pub bitOfRespond : (s : Session) (r : Respond) → Bool
+bitOfRespond s r = responseBit (expWith (r .polynomial) divisor) (r .y) (product (r .key) (s .degree) (r .challenge)) (r .words)
+
+-- z where its bit is 1
+unfoldable pub zOfRespond : (s : Session) (r : Respond) → List ℤ
+zOfRespond s r = responseZ (r .y) (product (r .key) (s .degree) (r .challenge)) (r .words)
+
+-- refused: its number, with 0 for the bit and the count; the session, y, z and the list stay
+unfoldable pub respondRefused : (refusal : ℕ) (s : Session) (r : Respond) → RespondLeft
+respondRefused refusal s r = record {
+  responded = record { answer = record { refusal = refusal; bit = false; entries = 0 }; session = s };
+  y = r .y;
+  z = r .z;
+  list = r .list;
+}
+
+-- served: the bit, y, z and the list are those of the response, and nothing is drawn any more
+unfoldable pub respondServed : (n : ℕ) (response : Response) → RespondLeft
+respondServed n response = record {
+  responded = record {
+    answer = record { refusal = 0; bit = response .answer .bit; entries = response .answer .entries };
+    session = record { degree = n; drawn = false };
+  };
+  y = response .y;
+  z = response .z;
+  list = response .list;
+}
+
+-- a respond
+unfoldable pub respondLeft : (s : Session) (r : Respond) → RespondLeft
+respondLeft s r =
+    cond (eqb (refusalOfRespond s r) 0)
+    (respondServed (s .degree) (respondedBy (s .degree) (bitOfRespond s r) (r .challenge) (zOfRespond s r) (r .list)))
+    (respondRefused (refusalOfRespond s r) s r)

@@ -1,6 +1,6 @@
 // Sessions: a degree, and whether y is drawn. Each call takes the session by value, and hands back the next one with its answer.
 ghost use mathlib.Core.Path.{_≡_};
-ghost use Rattle.session.specs.Calls.{opened, drawLeft};
+ghost use Rattle.session.specs.Calls.{opened, drawLeft, respondLeft};
 
 #[repr(C)]
 pub struct Session {
@@ -28,6 +28,21 @@ pub struct DrawAnswer {
 #[repr(C)]
 pub struct Drawn {
     pub answer: DrawAnswer,
+    pub session: Session,
+}
+
+// The answer of a respond: a refusal, or 0; the bit, and entries listed.
+#[repr(C)]
+pub struct RespondAnswer {
+    pub refusal: u32,
+    pub bit: bool,
+    pub entries: usize,
+}
+
+// What a respond hands back.
+#[repr(C)]
+pub struct Responded {
+    pub answer: RespondAnswer,
     pub session: Session,
 }
 
@@ -64,7 +79,7 @@ impl Session {
         y: &mut [i32],
         list: &mut [u32],
     ) -> Drawn
-        ensures { λ r. ⌜ record { drawn = r; y = now (y .exit); list = now (list .exit) } ≡ drawLeft self limit (now (cdt .entry)) (now (polynomial .entry)) (now (words .entry)) (now (y .entry)) (now (list .entry)) ⌝ }
+        ensures { λ r. ⌜ record { drawn = r; y = now (y .exit); list = now (list .exit) } ≡ drawLeft self (record { limit = limit; cdt = now (cdt .entry); polynomial = now (polynomial .entry); words = now (words .entry); y = now (y .entry); list = now (list .entry) }) ⌝ }
     {
         let n = self.degree;
         let refusal = refusals::draw_refusal(
@@ -108,6 +123,66 @@ impl Session {
             session: Session {
                 degree: n,
                 drawn: counts.accepted == want,
+            },
+        }
+    }
+
+    // Responds to a challenge: z holds y and the product of the key with the challenge, added or subtracted, where the bit is 1, else it
+    // is all zero. y becomes all zero. The reads are listed from the start of the list on.
+    pub fn respond(
+        self,
+        challenge: &[u32],
+        polynomial: &[u64],
+        words: &[u64],
+        key: &[i32],
+        y: &mut [i32],
+        z: &mut [i32],
+        list: &mut [u32],
+    ) -> Responded
+        ensures { λ r. ⌜ record { responded = r; y = now (y .exit); z = now (z .exit); list = now (list .exit) } ≡ respondLeft self (record { challenge = now (challenge .entry); polynomial = now (polynomial .entry); words = now (words .entry); key = now (key .entry); y = now (y .entry); z = now (z .entry); list = now (list .entry) }) ⌝ }
+    {
+        let n = self.degree;
+        let refusal = refusals::respond_refusal(
+            n,
+            self.drawn,
+            challenge,
+            polynomial,
+            words.len(),
+            key,
+            y,
+            z.len(),
+            list.len(),
+        );
+        if refusal != 0 {
+            return Responded {
+                answer: RespondAnswer {
+                    refusal,
+                    bit: false,
+                    entries: 0,
+                },
+                session: self,
+            };
+        }
+        let answer = response::respond(
+            n,
+            challenge,
+            polynomial,
+            exponential::RECIPROCAL_215,
+            words,
+            key,
+            y,
+            z,
+            list,
+        );
+        Responded {
+            answer: RespondAnswer {
+                refusal: 0,
+                bit: answer.bit,
+                entries: answer.entries,
+            },
+            session: Session {
+                degree: n,
+                drawn: false,
             },
         }
     }

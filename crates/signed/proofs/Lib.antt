@@ -1,1 +1,3 @@
 pub mod Signs
+pub mod Filling
+pub mod Vectors

@@ -6,9 +6,9 @@ use Prim.Native.Nat.{ℕ, _+_, _*_, _≤_}
 use native.Mathlib.Omega.{arith}
 use lib.Dec.{leb, ltb, eqb}
 use lib.ListN.{length}
-use borrow.Author.Tests.{not-true, not-false, eqb-true, leb-true, ltb-true, ltb-false, lt-leb, le-leb}
+use borrow.Author.Tests.{not-true, not-false, eqb-true, leb-true, lt-leb, le-leb}
 use Rattle.checks.specs.Checks.{isDegree, unless}
-use Rattle.checks.proofs.Laws.{both-true, degree-range}
+use Rattle.checks.proofs.Laws.{both-true, three-fail, below-not-above, degree-range}
 use Rattle.exponential.specs.Exponential.{isPolynomial}
 use Rattle.base_sample.specs.BaseSample.{isCdt}
 use Rattle.refusals.specs.Refusals.{drawRefusal}
@@ -16,18 +16,6 @@ use Rattle.refusals.proofs.draw_refusal.Statement.{statement}
 use Rattle.refusals.proofs.draw_refusal.Tie as tie
 
 -- ** Tests joined by `|`, and the tests of the definition
-
-three-fail : (a b c : Bool) → ((not a || not b) || not c) ≡ not (a && (b && c))
-three-fail true true c = refl
-three-fail true false c = refl
-three-fail false b c = refl
-
-below-not-above : (a b : ℕ) → ltb a b ≡ not (leb b a)
-below-not-above a b = by (ltb a b) refl
-  where
-    by : (t : Bool) → ltb a b ≡ t → t ≡ not (leb b a)
-    by true e = rw (lt-leb b a (ltb-true a b e))
-    by false e = rw (le-leb b a (ltb-false a b e))
 
 outside : (l low high : ℕ) → (ltb l low || ltb high l) ≡ not (leb low l && leb l high)
 outside l low high = rw (below-not-above l low, below-not-above high l) (by (leb low l))

@@ -1,24 +1,15 @@
 -- `signed::zero_all` meets its contract: after i turns the first i values are zero, and the others stand. Assumes nothing.
 use borrow.Author.Needs.{needs}
-use mathlib.Core.Path.{_≡_, refl, sym, ap, subst, _∙_}
-use mathlib.Core.List.{List, [], _∷_, _++_, append-nil}
-use Prim.Native.Nat.{ℕ, zero, suc, _≤_, _<_, _+_, _-_}
-use native.Mathlib.Nat.{not-suc-le-zero, le-of-suc-le-suc}
-use native.Mathlib.Numerals.{add-one}
+use mathlib.Core.Path.{_≡_, refl, ap, _∙_}
+use mathlib.Core.List.{List, _++_, append-nil}
+use Prim.Native.Nat.{_≤_, _<_, _-_}
 use native.Mathlib.Omega.{arith}
 use lib.IntN.{ℤ, pos}
 use lib.ListN.{length, replicate, drop, set, length-set}
 use lib.Seq.{drop-length}
+use Rattle.signed.proofs.Filling.{fill-more}
 use Rattle.signed.proofs.zero_all.Statement.{statement}
 use Rattle.signed.proofs.zero_all.Tie as tie
-
-fill-suc : (n : ℕ) (v : ℤ) (d : List ℤ) → n < length d → set (replicate n v ++ drop n d) n v ≡ replicate (suc n) v ++ drop (suc n) d
-fill-suc n v [] l = absurd (not-suc-le-zero l)
-fill-suc zero v (x ∷ d) l = refl
-fill-suc (suc n) v (x ∷ d) l = ap (λ (t : List ℤ). v ∷ t) (fill-suc n v d (le-of-suc-le-suc l))
-
-fill-more : (n : ℕ) (v : ℤ) (d : List ℤ) → n < length d → set (replicate n v ++ drop n d) n v ≡ replicate (n + 1) v ++ drop (n + 1) d
-fill-more n v d l = subst (λ (k : ℕ). set (replicate n v ++ drop n d) n v ≡ replicate k v ++ drop k d) (sym (add-one n)) (fill-suc n v d l)
 
 abbrev Inv-loop : tie.InvT-loop
 Inv-loop values₀ i₀ values i = (i ≤ length values₀) × (length values ≡ length values₀) × (values ≡ replicate i (pos 0) ++ drop i values₀)

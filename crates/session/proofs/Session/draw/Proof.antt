@@ -1,38 +1,59 @@
 -- `session::Session::draw` meets its contract, refused or served. Assumes nothing.
 use borrow.Author.Needs.{needs}
-use mathlib.Core.Path.{sym, _∙_}
-use Prim.Native.Nat.{_<_}
+use mathlib.Core.Path.{_≡_, sym, ap, _∙_}
+use mathlib.Core.List.{List}
+use Prim.Native.Nat.{ℕ, _*_, _<_}
 use native.Mathlib.Omega.{arith}
 use lib.Dec.{lit<}
 use lib.ListN.{length}
 use Rattle.checks.proofs.Laws.{degree-range}
-use Rattle.session.specs.Calls.{drawRefused, drawServed}
-use Rattle.refusals.proofs.Served.{DrawServed, draw-served}
-use Rattle.session.proofs.CallLaws.{draw-refused, draw-sampled}
+use Rattle.exponential.specs.Exponential.{expScaled}
+use Rattle.sampler.specs.Draw.{drawBits, Sampled, sampledBy}
+use Rattle.refusals.proofs.Served.{DrawServed}
+use Rattle.session.specs.declared.Session.{Session}
+use Rattle.session.specs.Calls.{Draw, DrawLeft, refusalOfDraw, bitsOfDraw, drawRefused, drawServed, drawLeft}
+use Rattle.session.proofs.Deviation.{by-215}
+use Rattle.session.proofs.Calls.{draw-passed, served-draw-leaves, refused-draw-leaves}
 use Rattle.session.proofs.Session.draw.Statement.{statement}
 use Rattle.session.proofs.Session.draw.Tie as tie
+
+-- the call, as the definitions have it
+abbrev call : tie.Start → Draw
+call c = let a = c .args in record { limit = a .limit; cdt = a .cdt .now; polynomial = a .polynomial .now; words = a .words .now; y = a .y .now; list = a .list .now }
 
 draw-refusal-requires : tie.Need-draw-refusal-requires
 draw-refusal-requires c κs = search needs
 
+abbrev start : tie.After-draw-refusal → tie.Start
+start c = c .before .before .before .before .before
+
+refusal-is : (c : tie.After-draw-refusal) → c .draw-refusal .result ≡ refusalOfDraw (start c .args .self) (call (start c))
+unfolding refusalOfDraw
+refusal-is c = c .draw-refusal .ensures
+
+-- ** Refused
+
+refused : (s : Session) (d : Draw) (refusal : ℕ) → refusal ≡ refusalOfDraw s d → (refusal ≡ 0 → ⊥) → drawRefused refusal s d ≡ drawLeft s d
+refused s d refusal e h = ap (λ (k : ℕ). drawRefused k s d) e ∙ sym (refused-draw-leaves s d (λ z. h (e ∙ z)))
+
 returns : tie.Need-returns
 unfolding drawRefused
-returns c =
-    let s = c .before .before .before .before .before .before .args in
-    draw-refused (s .self) (s .limit) (s .cdt .now) (s .polynomial .now) (s .words .now) (s .y .now) (s .list .now) _ (c .before .draw-refusal .ensures) (c .if1 .taken)
+returns c = let r = c .before in refused (start r .args .self) (call (start r)) _ (refusal-is r) (c .if1 .taken)
 
--- what is known where the draw is served
-served : (c : tie.Else1) → let s = c .before .before .before .before .before .before .args in DrawServed (s .self .degree) (s .limit) (s .cdt .now) (s .polynomial .now) (length (s .words .now)) (length (s .y .now)) (length (s .list .now))
-served c =
-    let s = c .before .before .before .before .before .before .args in
-    draw-served (s .self .degree) (s .limit) (s .cdt .now) (s .polynomial .now) (length (s .words .now)) (length (s .y .now)) (length (s .list .now)) (sym (c .before .draw-refusal .ensures) ∙ c .if1 .left)
+-- ** Served
+
+served : (c : tie.Else1) → refusalOfDraw (start (c .before) .args .self) (call (start (c .before))) ≡ 0
+served c = sym (refusal-is (c .before)) ∙ c .if1 .left
+
+passed : (c : tie.Else1) → let a = start (c .before) .args in DrawServed (a .self .degree) (a .limit) (a .cdt .now) (a .polynomial .now) (length (a .words .now)) (length (a .y .now)) (length (a .list .now))
+passed c = draw-passed (start (c .before) .args .self) (call (start (c .before))) (served c)
 
 mul-want : tie.Need-mul-want
-mul-want c = omega (arith, degree-range _ (served c .degree) .1)
+mul-want c = omega (arith, degree-range _ (passed c .degree) .1)
 
 draw-requires : tie.Need-draw-requires
 draw-requires c κs =
-    let k = served (c .before .before) in
+    let k = passed (c .before .before) in
     let n = degree-range _ (k .degree) .1 in
     (record { twenty = k .twenty; small = k .small; is-polynomial = k .is-polynomial; scales = lit< tt }, (omega (arith, n), omega (arith, n, k .limit-high), k .words-enough, k .both, k .list-enough))
 
@@ -42,14 +63,20 @@ same-length c = search needs
 same-length-2 : tie.Need-same-length-2
 same-length-2 c = search needs
 
+sampled-leaves : (s : Session) (d : Draw) (sampled : Sampled) → refusalOfDraw s d ≡ 0
+    → sampled ≡ sampledBy (s .degree) (d .cdt) (d .words) (drawBits (expScaled (d .polynomial) 3269134179596076729) (d .cdt) (d .words) (d .limit) (2 * s .degree)) (d .list)
+    → drawServed (s .degree) sampled ≡ drawLeft s d
+unfolding bitsOfDraw
+sampled-leaves s d sampled h e =
+    ap (drawServed (s .degree)) (e ∙ ap (λ (f : ℕ → ℕ). sampledBy (s .degree) (d .cdt) (d .words) (drawBits f (d .cdt) (d .words) (d .limit) (2 * s .degree)) (d .list)) (by-215 (d .polynomial)))
+    ∙ sym (served-draw-leaves s d h)
+
 returns-2 : tie.Need-returns-2
 unfolding drawServed
 returns-2 c =
     let d = c .before .before .before .before in
-    let s = d .before .before .before .before .before .before .before .before .before .args in
-    draw-sampled (s .self) (s .limit) (s .cdt .now) (s .polynomial .now) (s .words .now) (s .y .now) (s .list .now) _ (d .before .before .before .before .draw-refusal .ensures) (d .before .before .before .if1 .left) _ (d .draw .ensures)
+    let other = d .before .before .before in
+    sampled-leaves (start (other .before) .args .self) (call (start (other .before))) _ (served other) (d .draw .ensures)
 
 pub draw-spec : {M : Type 1} → statement M
-draw-spec =
-    tie.close
-    (tie.spec draw-refusal-requires returns mul-want draw-requires same-length same-length-2 returns-2)
+draw-spec = tie.close (tie.spec draw-refusal-requires returns mul-want draw-requires same-length same-length-2 returns-2)

@@ -1,0 +1,4 @@
+pub mod Positions
+pub mod ProductLaws
+pub mod ProductTells
+pub mod Agreement

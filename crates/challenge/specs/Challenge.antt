@@ -1,0 +1,23 @@
+-- The challenge of document 01. Assumes nothing.
+use mathlib.Core.Bool.{Bool, _&&_}
+use mathlib.Core.List.{List}
+use Prim.Native.Nat.{ℕ, suc, _-_}
+use lib.Dec.{leb, ltb}
+use lib.ListN.{length, getD}
+use Rattle.checks.specs.Checks.{allBelow}
+
+-- whether a challenge may have so many positions at most: 64, and n
+abbrev pub lengthFits : (n count : ℕ) → Bool
+lengthFits n count = leb count 64 && leb count n
+
+-- whether every position is below n
+unfoldable pub positionsBelow : (n : ℕ) (challenge : List ℕ) → Bool
+positionsBelow n challenge = allBelow (λ (k : ℕ). ltb (getD challenge k 0) n) (length challenge)
+
+-- whether the positions are strictly ascending
+unfoldable pub ascends : (challenge : List ℕ) → Bool
+ascends challenge = allBelow (λ (k : ℕ). ltb (getD challenge k 0) (getD challenge (suc k) 0)) (length challenge - 1)
+
+-- whether positions are a challenge at degree n: there is one, there are not too many, each is below n, and they ascend
+unfoldable pub isChallenge : (n : ℕ) (challenge : List ℕ) → Bool
+isChallenge n challenge = ltb 0 (length challenge) && (lengthFits n (length challenge) && (positionsBelow n challenge && ascends challenge))

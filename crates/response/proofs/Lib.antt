@@ -1,0 +1,4 @@
+pub mod Passes
+pub mod RespondTells
+pub mod Judging
+pub mod Agreement

@@ -1,0 +1,18 @@
+-- `response::all_pass` meets its contract. Assumes nothing.
+use borrow.Author.Needs.{needs}
+use Rattle.response.specs.Response.{allPass}
+use Rattle.response.proofs.all_pass.Statement.{statement}
+use Rattle.response.proofs.all_pass.Tie as tie
+
+low62-requires : tie.Need-low62-requires
+low62-requires c κs = search needs
+
+passes-cosh-requires : tie.Need-passes-cosh-requires
+passes-cosh-requires c κs = search needs
+
+returns : tie.Need-returns
+unfolding allPass
+returns c = rw (c .before .before .passes-cosh .ensures, c .before .before .before .low62 .ensures)
+
+pub all-pass-spec : {M : Type 1} → statement M
+all-pass-spec = tie.close (tie.spec low62-requires passes-cosh-requires returns)

@@ -1,0 +1,105 @@
+-- `response::measured` meets its contract. Assumes nothing.
+use borrow.Author.Needs.{needs}
+use mathlib.Core.Path.{_≡_, refl, sym, ap, ap₂, subst, _∙_}
+use mathlib.Core.Bool.{true}
+use mathlib.Core.List.{List, _∷_, _++_}
+use Prim.Native.Nat.{ℕ, _+_, _*_, _≤_}
+use native.Mathlib.Nat.{le-trans, mul-le-mul-left}
+use native.Mathlib.Omega.{arith}
+use lib.ListN.{length, getD, set}
+use lib.Seq.{sets}
+use lib.IntN.{ℤ, natAbs}
+use mir.Syntax.{w64}
+use mir.Val.{SFits}
+use Rattle.signed.specs.Vectors.{allWithin, squareSum, innerProduct}
+use Rattle.signed.proofs.Signs.{fits-of-abs, read-back}
+use Rattle.read_list.specs.Entries.{entry, placesUp}
+use Rattle.read_list.proofs.Laws.{sets-append}
+use Rattle.challenge.specs.Product.{product, productEntries}
+use Rattle.challenge.proofs.ProductLaws.{length-product, length-productEntries, product-within}
+use Rattle.response.specs.Response.{subtracts, responseOf, responseZ, measuresOf}
+use Rattle.response.proofs.Passes.{inner-bound}
+use Rattle.response.proofs.measured.Statement.{statement}
+use Rattle.response.proofs.measured.Tie as tie
+
+note-requires : tie.Need-note-requires
+note-requires c κs = search needs
+
+product-listed-requires : tie.Need-product-listed-requires
+product-listed-requires c κs =
+    let s = c .before .before .before .before .before .before .before .before .before in
+    let p = s .pre .0 in
+    let q = s .pre .1 in
+    ((q .0, q .1, p .0, q .4), (p .1, p .2, omega (arith, p .4, c .before .before .before .before .note .kept .1 .1 .0)))
+
+mul-at : tie.Need-mul-at
+mul-at c = search needs
+
+mul-at-2 : tie.Need-mul-at-2
+mul-at-2 c = search needs
+
+add-at : tie.Need-add-at
+add-at c = search needs
+
+response-words-requires : tie.Need-response-words-requires
+response-words-requires c κs = search needs
+
+add-product-requires : tie.Need-add-product-requires
+add-product-requires c κs =
+    let s = c .before .before .before .before .before .before .before .before .before .before .before .before .before .before .before .before .before .before in
+    let a = s .args in
+    let made = c .before .before .before .before .before .before .before .before .product-listed .ensures .1 .0 in
+    let size = ap length made ∙ length-product (a .key .now) (a .degree) (a .challenge .now) in
+    (s .pre .1 .2 ∙ sym size, omega (arith, size, s .pre .0 .0), s .pre .1 .3, ap (allWithin 448) made ∙ product-within (a .key .now) (a .degree) (s .pre .1 .1) (a .challenge .now) (s .pre .0 .2))
+
+same-length : tie.Need-same-length
+same-length c = search needs
+
+same-length-2 : tie.Need-same-length-2
+same-length-2 c = search needs
+
+-- I is small, and fits 64 bits
+inner-small : (c : tie.After-add-product) → natAbs (c .add-product .result .inner) ≤ 1461824 * 2048
+inner-small c =
+    let p = add-product-requires (c .before) (c .add-product .lifetimes) in
+    rw (c .add-product .ensures .0 .1) (le-trans (inner-bound _ _ _ (p .2) (p .3)) (mul-le-mul-left 1461824 (p .1)))
+
+inner-fits : (c : tie.After-add-product) → SFits w64 (c .add-product .result .inner)
+inner-fits c = fits-of-abs (omega (arith, inner-small c))
+
+measures : (y sc z : List ℤ) (first second third : ℕ) (words : List ℕ) (squares norm : ℕ) (inner : ℤ) → z ≡ sc → first ≡ getD words 0 0 → second ≡ getD words 1 0 → third ≡ getD words 2 0 → squares ≡ squareSum sc
+    → norm ≡ squareSum (responseOf (subtracts first) y z) → inner ≡ innerProduct (responseOf (subtracts first) y z) z
+    → record { squares = squares; norm = norm; inner = inner; second = second; third = third } ≡ measuresOf y sc words
+unfolding measuresOf responseZ
+measures y sc z first second third words squares norm inner ez e₀ e₁ e₂ es en ei = rw (es, en, ei, ez, e₀, e₁, e₂)
+
+response : (y sc z : List ℤ) (first : ℕ) (words : List ℕ) → z ≡ sc → first ≡ getD words 0 0 → responseOf (subtracts first) y z ≡ responseZ y sc words
+unfolding responseZ
+response y sc z first words ez e₀ = rw (ez, e₀)
+
+written : (n : ℕ) (challenge l l₁ l₂ l₃ : List ℕ) → l₁ ≡ set l 0 (entry 7 n) → l₂ ≡ sets l₁ 1 (productEntries n challenge) → l₃ ≡ sets l₂ (1 + 2 * n * length challenge) (placesUp 2 0 3)
+    → l₃ ≡ sets l 0 (entry 7 n ∷ (productEntries n challenge ++ placesUp 2 0 3))
+written n challenge l l₁ l₂ l₃ e₁ e₂ e₃ =
+    let es = productEntries n challenge in
+    e₃
+    ∙ ap₂ (λ (k : List ℕ) (p : ℕ). sets k (1 + p) (placesUp 2 0 3)) (e₂ ∙ ap (λ (k : List ℕ). sets k 1 es) e₁) (sym (length-productEntries n challenge))
+    ∙ sym (sets-append (set l 0 (entry 7 n)) 1 es (placesUp 2 0 3))
+
+returns : tie.Need-returns
+returns c =
+    let sums = c .before .before .add-product .ensures in
+    let w = c .before .before .before .before .before .before .response-words .ensures in
+    let p = c .before .before .before .before .before .before .before .before .before .before .before .product-listed .ensures in
+    let note = c .before .before .before .before .before .before .before .before .before .before .before .before .before .before .before .before .note .ensures in
+    let a = c .before .before .before .before .before .before .before .before .before .before .before .before .before .before .before .before .before .before .before .before .before .args in (
+      measures (a .y .now) (product (a .key .now) (a .degree) (a .challenge .now)) _ _ _ _ (a .words .now) _ _ _ (p .1 .0) (w .0) (w .1) (w .2) (p .0) (sums .0 .0) (read-back (inner-fits (c .before .before)) ∙ sums .0 .1),
+      (
+        sums .1 ∙ response (a .y .now) (product (a .key .now) (a .degree) (a .challenge .now)) _ _ (a .words .now) (p .1 .0) (w .0),
+        written (a .degree) (a .challenge .now) (a .list .now) _ _ _ note (p .1 .1) (w .3),
+      ),
+    )
+
+pub measured-spec : {M : Type 1} → statement M
+measured-spec =
+    tie.close
+    (tie.spec note-requires product-listed-requires mul-at mul-at-2 add-at response-words-requires add-product-requires same-length same-length-2 returns)

@@ -1,0 +1,84 @@
+-- `response::respond` meets its contract. Assumes nothing.
+use borrow.Author.Needs.{needs}
+use mathlib.Core.Path.{_≡_, refl, sym, ap, ap₂, _∙_}
+use mathlib.Core.Bool.{Bool, cond}
+use mathlib.Core.List.{List, [], _∷_, _++_}
+use Prim.Native.Nat.{ℕ, _+_, _*_, _≤_}
+use native.Mathlib.Nat.{mul-le-mul}
+use native.Mathlib.Omega.{arith}
+use lib.ListN.{length, getD}
+use lib.Seq.{sets}
+use lib.IntN.{natAbs}
+use Rattle.read_list.specs.Entries.{entry, placesUp, placesDown}
+use Rattle.challenge.specs.Product.{product}
+use Rattle.challenge.proofs.ProductLaws.{length-product, product-within}
+use Rattle.response.specs.declared.Measures.{Measures}
+use Rattle.response.specs.Response.{subtracts, responseZ, measuresOf, acceptsBy, responseBit}
+use Rattle.response.proofs.Passes.{inner-bound}
+use Rattle.response.proofs.Judging.{response-left}
+use Rattle.response.proofs.respond.Statement.{statement}
+use Rattle.response.proofs.respond.Tie as tie
+
+measured-requires : tie.Need-measured-requires
+measured-requires c κs =
+    let s = c .before .before .before .before .before .before .before in
+    let p = s .pre .0 in
+    let q = s .pre .1 in
+    ((p .0, p .1, p .2, p .5, omega (arith, q .5)), (q .0, q .1, q .2, q .3, q .4))
+
+mul-at : tie.Need-mul-at
+mul-at c = search needs
+
+mul-at-2 : tie.Need-mul-at-2
+mul-at-2 c = search needs
+
+add-at : tie.Need-add-at
+add-at c = search needs
+
+inner-small : (s : tie.Start) → let a = s .args in natAbs (measuresOf (a .y .now) (product (a .key .now) (a .degree) (a .challenge .now)) (a .words .now) .inner) ≤ 1461824 * 2048
+unfolding measuresOf responseZ
+inner-small s =
+    let a = s .args in
+    let sc = product (a .key .now) (a .degree) (a .challenge .now) in
+    omega (arith, inner-bound (subtracts (getD (a .words .now) 0 0)) (a .y .now) sc (s .pre .1 .3) (product-within (a .key .now) (a .degree) (s .pre .1 .1) (a .challenge .now) (s .pre .0 .2)), length-product (a .key .now) (a .degree) (a .challenge .now), s .pre .0 .0)
+
+judged-requires : tie.Need-judged-requires
+judged-requires c κs =
+    let m = c .before .before .before .before in
+    let s = m .before .before .before .before .before .before .before .before in
+    (s .pre .0 .3, s .pre .0 .4, omega (arith, ap (λ (x : Measures). natAbs (x .inner)) (m .measured .ensures .0), inner-small s), omega (arith, s .pre .1 .5, m .measured .kept .1 .1 .1 .1 .1 .1 .0))
+
+keep-all-requires : tie.Need-keep-all-requires
+keep-all-requires c κs = search needs
+
+zero-all-requires : tie.Need-zero-all-requires
+zero-all-requires c κs = search needs
+
+add-entries : tie.Need-add-entries
+add-entries c =
+    let s = c .before .before .before .before .before .before .before .before .before .before .before .before .before .before .before .before .before .before .before .before .before in
+    record { fits = omega (arith, mul-le-mul {n₁ = 2 * s .args .degree} {m₁ = length (s .args .challenge .now)} {n₂ = 2048} {m₂ = 64} (omega (arith, s .pre .0 .0)) (s .pre .0 .2)) }
+
+same-length : tie.Need-same-length
+same-length c = search needs
+
+same-length-2 : tie.Need-same-length-2
+same-length-2 c = search needs
+
+same-length-3 : tie.Need-same-length-3
+same-length-3 c = search needs
+
+returns : tie.Need-returns
+unfolding responseBit
+returns c =
+    let j = c .before .before .before .before .before .before .before .before in
+    let m = j .before .before .before .before .before in
+    let s = m .before .before .before .before .before .before .before .before in
+    let a = s .args in
+    response-left (a .degree) _ _ (a .challenge .now) _ (a .list .now) _ (a .y .now) _ _ _ _ _ (j .judged .ensures .0 ∙ ap (acceptsBy _) (m .measured .ensures .0)) (omega arith) (s .pre .1 .2) (c .before .zero-all .ensures)
+    (m .measured .kept .1 .1 .1 .1 .1 .0 ∙ s .pre .1 .4) (m .measured .ensures .1 .0) (c .before .before .before .before .keep-all .ensures) (m .measured .ensures .1 .1) (j .judged .ensures .1)
+
+pub respond-spec : {M : Type 1} → statement M
+respond-spec =
+    tie.close
+    (tie.spec measured-requires mul-at mul-at-2 add-at judged-requires keep-all-requires zero-all-requires add-entries same-length same-length-2 same-length-3 returns)

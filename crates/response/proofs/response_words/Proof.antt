@@ -1,0 +1,49 @@
+-- `response::response_words` meets its contract. Assumes nothing.
+use borrow.Author.Needs.{needs}
+use mathlib.Core.Path.{_≡_}
+use mathlib.Core.List.{List}
+use Prim.Native.Nat.{ℕ, suc, _+_}
+use native.Mathlib.Omega.{arith}
+use lib.ListN.{set}
+use lib.Seq.{sets}
+use Rattle.read_list.specs.Entries.{entry, placesUp}
+use Rattle.response.proofs.response_words.Statement.{statement}
+use Rattle.response.proofs.response_words.Tie as tie
+
+-- three entries, one after the other
+three : (l l₁ l₂ l₃ : List ℕ) (at : ℕ) → l₁ ≡ set l at (entry 2 0) → l₂ ≡ set l₁ (at + 1) (entry 2 1) → l₃ ≡ set l₂ (at + 2) (entry 2 2) → l₃ ≡ sets l at (placesUp 2 0 3)
+unfolding placesUp
+three l l₁ l₂ l₃ at e₁ e₂ e₃ =
+    let a₁ : at + 1 ≡ suc at = omega arith in
+    let a₂ : at + 2 ≡ suc (suc at) = omega arith in
+    rw (e₃, e₂, e₁, a₁, a₂)
+
+listed-word-requires : tie.Need-listed-word-requires
+listed-word-requires c κs = search needs
+
+add-listed-word : tie.Need-add-listed-word
+add-listed-word c = search needs
+
+listed-word-requires-2 : tie.Need-listed-word-requires-2
+listed-word-requires-2 c κs = search needs
+
+add-listed-word-2 : tie.Need-add-listed-word-2
+add-listed-word-2 c = search needs
+
+listed-word-requires-3 : tie.Need-listed-word-requires-3
+listed-word-requires-3 c κs = search needs
+
+same-length : tie.Need-same-length
+same-length c = search needs
+
+returns : tie.Need-returns
+returns c =
+    let third = c .before .before .listed-word3 in
+    let second = c .before .before .before .before .before .before .listed-word2 in
+    let first = c .before .before .before .before .before .before .before .before .before .before .listed-word in
+    (first .ensures .0, second .ensures .0, third .ensures .0, three _ _ _ _ _ (first .ensures .1) (second .ensures .1) (third .ensures .1))
+
+pub response-words-spec : {M : Type 1} → statement M
+response-words-spec =
+    tie.close
+    (tie.spec listed-word-requires add-listed-word listed-word-requires-2 add-listed-word-2 listed-word-requires-3 same-length returns)

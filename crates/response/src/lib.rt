@@ -1,0 +1,180 @@
+// The response of document 01. Nothing branches on a word, a key value or y; the four tests are joined into one bit.
+ghost use mathlib.Core.Path.{_≡_};
+ghost use mathlib.Core.Bool.{true};
+ghost use mathlib.Core.List.{[], _∷_, _++_};
+ghost use Prim.Native.Nat.{_+_, _*_, _^_, _≤_, _<_};
+ghost use lib.ListN.{length, getD};
+ghost use lib.Seq.{sets};
+ghost use lib.IntN.{natAbs, _+ℤ_, _*ℤ_};
+ghost use Rattle.arithmetic.specs.Words.{bit};
+ghost use Rattle.read_list.specs.Entries.{entry, placesUp, placesDown};
+ghost use Rattle.signed.specs.Vectors.{allWithin, squareSum, innerProduct};
+ghost use Rattle.exponential.specs.Exponential.{polynomial, expScaled};
+ghost use Rattle.challenge.specs.Challenge.{positionsBelow};
+ghost use Rattle.challenge.specs.Product.{product, productEntries};
+ghost use Rattle.response.specs.Response.{subtracts, responseOf, coshPasses, allPass, measuresOf, acceptsBy, responseZ, responseBit, respondedBy};
+
+// The answer of a response: its bit, and the entries listed.
+pub struct Answer {
+    pub bit: bool,
+    pub entries: usize,
+}
+
+// The words of a response.
+pub struct ResponseWords {
+    pub first: u64,
+    pub second: u64,
+    pub third: u64,
+}
+
+// The sum of squares Z of a response, and its sum of products I with the challenge product.
+pub struct Sums {
+    pub norm: u64,
+    pub inner: i64,
+}
+
+// What the bit of a response hangs on: the sums A, Z and I, and two words.
+pub struct Measures {
+    pub squares: u64,
+    pub norm: u64,
+    pub inner: i64,
+    pub second: u64,
+    pub third: u64,
+}
+
+// The words of a response, listed from the index `at` of a list on.
+fn response_words(words: &[u64], list: &mut [u32], at: usize) -> ResponseWords
+    requires { ⌜ (3 ≤ length (now words)) × (at + 3 ≤ length (now list)) ⌝ }
+    ensures { λ r. ⌜ (r .first ≡ getD (now (words .entry)) 0 0) × (r .second ≡ getD (now (words .entry)) 1 0) × (r .third ≡ getD (now (words .entry)) 2 0) × (now (list .exit) ≡ sets (now (list .entry)) at (placesUp 2 0 3)) ⌝ }
+{
+    let first = read_list::listed_word(words, 2, 0, list, at);
+    let second = read_list::listed_word(words, 2, 1, list, at + 1);
+    let third = read_list::listed_word(words, 2, 2, list, at + 2);
+    ResponseWords {
+        first,
+        second,
+        third,
+    }
+}
+
+// One value of the response: y and the product with its sign.
+fn response_at(y: i32, sc: i32, sign: i32) -> i32
+    requires { ⌜ (natAbs y ≤ 2815) × (natAbs sc ≤ 448) × (natAbs sign ≤ 1) ⌝ }
+    ensures { λ r. ⌜ (r ≡ y +ℤ (sc *ℤ sign)) × (natAbs r ≤ 3263) ⌝ }
+{
+    signed::plus(y, signed::times_sign(sc, sign))
+}
+
+// Makes z the response, in place: it holds the challenge product before. The sign is by bit 0 of a word.
+fn add_product(word: u64, y: &[i32], z: &mut [i32]) -> Sums
+    requires { ⌜ (length (now y) ≡ length (now z)) × (length (now z) ≤ 2048) × (allWithin 2815 (now y) ≡ true) × (allWithin 448 (now z) ≡ true) ⌝ }
+    ensures { λ r. ⌜ (r .norm ≡ squareSum (responseOf (subtracts word) (now (y .entry)) (now (z .entry)))) × (r .inner ≡ innerProduct (responseOf (subtracts word) (now (y .entry)) (now (z .entry))) (now (z .entry))) ⌝ }
+    ensures { λ _. ⌜ now (z .exit) ≡ responseOf (subtracts word) (now (y .entry)) (now (z .entry)) ⌝ }
+{
+    let sign = signed::sign_of(arithmetic::bit0(word));
+    let mut norm: u64 = 0;
+    let mut inner: i64 = 0;
+    let mut i: usize = 0;
+    while i < z.len() {
+        let sc = z[i];
+        let v = response_at(y[i], sc, sign);
+        z[i] = v;
+        norm += signed::square(v);
+        inner = signed::plus_product(inner, v, sc);
+        i += 1;
+    }
+    Sums { norm, inner }
+}
+
+// The cosh test: 62 of a word, times 2^62 + f, is below e times 2^63.
+fn passes_cosh(e: u64, word: u64) -> bool
+    requires { ⌜ e ≤ 2 ^ 62 ⌝ }
+    ensures { λ r. ⌜ r ≡ coshPasses e word ⌝ }
+{
+    let f = arithmetic::square_shift62(e);
+    let left = arithmetic::product(arithmetic::low62(word), 0x4000_0000_0000_0000 + f);
+    let right = arithmetic::product(e, 0x8000_0000_0000_0000);
+    arithmetic::less(left, right) == 1
+}
+
+// The four tests of a response, joined without a branch.
+fn all_pass(m: Measures, e1: u64, e2: u64) -> bool
+    requires { ⌜ e2 ≤ 2 ^ 62 ⌝ }
+    ensures { λ r. ⌜ r ≡ allPass m e1 e2 ⌝ }
+{
+    let second = arithmetic::low62(m.second);
+    let cosh = passes_cosh(e2, m.third);
+    (m.squares <= 46225) & ((m.norm <= 165688384) & ((second < e1) & cosh))
+}
+
+// The challenge product, three words and the response, in the order of the list: z becomes the response, and entries are listed from the
+// start of the list on.
+fn measured(
+    degree: usize,
+    challenge: &[u32],
+    words: &[u64],
+    key: &[i32],
+    y: &[i32],
+    z: &mut [i32],
+    list: &mut [u32],
+) -> Measures
+    requires { ⌜ (degree ≤ 1024) × (positionsBelow degree (now challenge) ≡ true) × (length (now challenge) ≤ 64) × (3 ≤ length (now words)) × (2 * degree * length (now challenge) + 4 ≤ length (now list)) ⌝ }
+    requires { ⌜ (length (now key) ≡ 2 * degree) × (allWithin 7 (now key) ≡ true) × (length (now y) ≡ 2 * degree) × (allWithin 2815 (now y) ≡ true) × (length (now z) ≡ 2 * degree) ⌝ }
+    ensures { λ r. ⌜ r ≡ measuresOf (now (y .entry)) (product (now (key .entry)) degree (now (challenge .entry))) (now (words .entry)) ⌝ }
+    ensures { λ _. ⌜ now (z .exit) ≡ responseZ (now (y .entry)) (product (now (key .entry)) degree (now (challenge .entry))) (now (words .entry)) ⌝ }
+    ensures { λ _. ⌜ now (list .exit) ≡ sets (now (list .entry)) 0 (entry 7 degree ∷ (productEntries degree (now (challenge .entry)) ++ placesUp 2 0 3)) ⌝ }
+{
+    read_list::note(7, degree, list, 0);
+    let squares = challenge::product_listed(key, degree, challenge, z, list, 1);
+    let at = 1 + 2 * degree * challenge.len();
+    let w = response_words(words, list, at);
+    let sums = add_product(w.first, y, z);
+    Measures {
+        squares,
+        norm: sums.norm,
+        inner: sums.inner,
+        second: w.second,
+        third: w.third,
+    }
+}
+
+// The bit of a response. Both exponentials are always worked out. Their reads and the bit are listed from the index `at` of a list on.
+fn judged(table: &[u64], reciprocal: u64, m: Measures, list: &mut [u32], at: usize) -> bool
+    requires { ⌜ (now table ≡ polynomial) × (5534960 * reciprocal < 2 ^ 84) × (natAbs (m .inner) < 2 ^ 60) × (at + 43 ≤ length (now list)) ⌝ }
+    ensures { λ r. ⌜ r ≡ acceptsBy (expScaled (now (table .entry)) reciprocal) m ⌝ }
+    ensures { λ r. ⌜ now (list .exit) ≡ sets (now (list .entry)) at (placesDown 4 21 ++ (placesDown 4 21 ++ (entry 9 (bit r) ∷ []))) ⌝ }
+{
+    let first_exponent = 46225 - arithmetic::smaller(m.squares, 46225);
+    let second_exponent = arithmetic::smaller(2 * signed::size_of(m.inner), 5534960);
+    let e1 = exponential::exp_listed(table, reciprocal, first_exponent, list, at);
+    let e2 = exponential::exp_listed(table, reciprocal, second_exponent, list, at + 21);
+    let accepted = all_pass(m, e1, e2);
+    read_list::note(9, accepted as usize, list, at + 42);
+    accepted
+}
+
+// A response to a challenge. z is written where the bit is 1, else it is all zero; y becomes all zero. Entries are listed from the start
+// of the list on, and the rest of the list is unchanged.
+pub fn respond(
+    degree: usize,
+    challenge: &[u32],
+    table: &[u64],
+    reciprocal: u64,
+    words: &[u64],
+    key: &[i32],
+    y: &mut [i32],
+    z: &mut [i32],
+    list: &mut [u32],
+) -> Answer
+    requires { ⌜ (degree ≤ 1024) × (positionsBelow degree (now challenge) ≡ true) × (length (now challenge) ≤ 64) × (now table ≡ polynomial) × (5534960 * reciprocal < 2 ^ 84) × (3 ≤ length (now words)) ⌝ }
+    requires { ⌜ (length (now key) ≡ 2 * degree) × (allWithin 7 (now key) ≡ true) × (length (now y) ≡ 2 * degree) × (allWithin 2815 (now y) ≡ true) × (length (now z) ≡ 2 * degree) × (2 * degree * length (now challenge) + 47 ≤ length (now list)) ⌝ }
+    ensures { λ r. ⌜ record { answer = r; y = now (y .exit); z = now (z .exit); list = now (list .exit) } ≡ respondedBy degree (responseBit (expScaled (now (table .entry)) reciprocal) (now (y .entry)) (product (now (key .entry)) degree (now (challenge .entry))) (now (words .entry))) (now (challenge .entry)) (responseZ (now (y .entry)) (product (now (key .entry)) degree (now (challenge .entry))) (now (words .entry))) (now (list .entry)) ⌝ }
+{
+    let m = measured(degree, challenge, words, key, y, z, list);
+    let at = 2 * degree * challenge.len() + 4;
+    let bit = judged(table, reciprocal, m, list, at);
+    signed::keep_all(z, bit);
+    signed::zero_all(y);
+    let entries = at + 43;
+    Answer { bit, entries }
+}

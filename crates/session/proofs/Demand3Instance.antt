@@ -1,0 +1,107 @@
+-- Demand 3 at degree 4: what the calls do by computation, and the rest by demand 3. Assumes nothing.
+use mathlib.Core.Path.{_≡_, refl, sym, ap, _∙_}
+use mathlib.Core.Bool.{Bool, true, false, not, _&&_, _||_}
+use mathlib.Core.Logic.{⊎-elim}
+use mathlib.Core.List.{List, [], _∷_, _++_, List·Memᴰ, List·Memᴰ·not-nil, List·Memᴰ·cases-cons}
+use Prim.Native.Nat.{ℕ, _<_}
+use native.Mathlib.Omega.{arith}
+use lib.Dec.{ltb, eqb}
+use lib.IntN.{ℤ, pos}
+use lib.ListN.{length, replicate, getD, List·getD-append}
+use borrow.Author.Tests.{ltb-true, eq-eqb}
+use Rattle.read_list.specs.Entries.{kindOf, placeOf, placesUp, placesDown, filledPart}
+use Rattle.read_list.specs.Agreement.{Agree}
+use Rattle.checks.specs.Checks.{among, isDegree, allBelow, unless}
+use Rattle.checks.proofs.Laws.{both-true}
+use Rattle.signed.specs.Vectors.{allWithin, squareSum, innerProduct}
+use Rattle.exponential.specs.Exponential.{factorial, entriesFrom as polynomialFrom, polynomial, sameWords, isPolynomial, reciprocal, scaled, evaluate, squared, squarings, expScaled, expWith}
+use Rattle.base_sample.specs.BaseSample.{wordsSmall, neverFalls, isCdt, atOrBelow, baseSample}
+use Rattle.attempt.specs.Attempt.{accepts, sample, bitAt, sampleAt, attemptEntries}
+use Rattle.sampler.specs.Draw.{bitsFrom, drawBits, accepted, samplesFrom, drawY, entriesFrom, drawEntries, sampledBy}
+use Rattle.challenge.specs.Challenge.{positionsBelow, ascends, isChallenge}
+use Rattle.challenge.specs.Product.{termAt, outputAt, outputsFrom, product, outputEntries, outputEntriesFrom, productEntries}
+use Rattle.response.specs.Response.{responseOf, measuresOf, coshPasses, allPass, acceptsBy, respondEntries, responseZ, responseBit, respondedBy}
+use Rattle.refusals.specs.Refusals.{openRefusal, drawRefusal, respondRefusal}
+use Rattle.session.specs.Calls.{opened, refusalOfDraw, bitsOfDraw, drawServed, drawLeft, refusalOfRespond, bitOfRespond, respondServed, respondLeft}
+use Rattle.session.specs.Histories.{draw, respond, leftBy, nextIn, entriesIn, Linked, eventOf, history}
+use Rattle.session.specs.Demand3.{NoneRefused, AllAlike, Agreeing}
+use Rattle.session.specs.Demand3Instance.{thresholdsFrom, fives, drawOver, drawing, rejecting, responding, callsOver, calls, calls′, callsRejecting, start, drawnAndAnswered, Demand3Instance}
+use Rattle.session.proofs.Demand3.{demand3}
+
+-- ** Agreement where the words that differ are not read
+
+-- whether every word that a list names is at a place below a bound
+unfoldable wordsBelow : (bound : ℕ) (list : List ℕ) → Bool
+wordsBelow bound [] = true
+wordsBelow bound (e ∷ list) = (not (eqb (kindOf e) 2) || ltb (placeOf e) bound) && wordsBelow bound list
+
+word-below : (bound e : ℕ) (list : List ℕ) → wordsBelow bound list ≡ true → List·Memᴰ e list → kindOf e ≡ 2 → placeOf e < bound
+unfolding wordsBelow
+word-below bound e [] h m k = absurd (List·Memᴰ·not-nil m)
+word-below bound e (f ∷ list) h m k =
+    let here-and-later = both-true (not (eqb (kindOf f) 2) || ltb (placeOf f) bound) (wordsBelow bound list) h in
+    ⊎-elim
+    (λ at. here at (here-and-later .0))
+    (λ later. word-below bound e list (here-and-later .1) later k)
+    (List·Memᴰ·cases-cons m)
+  where
+    here : e ≡ f → (not (eqb (kindOf f) 2) || ltb (placeOf f) bound) ≡ true → placeOf e < bound
+    here at t = ltb-true (placeOf e) bound (rw (← at, eq-eqb (kindOf e) 2 k) at t)
+
+-- what is lent has the same words first and others behind them, and only the first are named
+agree-on-first : (first rest rest′ cdt table : List ℕ) (key : List ℤ) (list : List ℕ) → wordsBelow (length first) list ≡ true
+    → Agree (record { words = first ++ rest; cdt = cdt; polynomial = table; key = key }) (record { words = first ++ rest′; cdt = cdt; polynomial = table; key = key }) list
+agree-on-first first rest rest′ cdt table key list h e m = record {
+  words = λ k.
+      let below = word-below (length first) e list h m k in
+      List·getD-append first rest 0 (placeOf e) below ∙ sym (List·getD-append first rest′ 0 (placeOf e) below);
+  cdt = λ k. refl;
+  polynomial = λ k. refl;
+  key = λ k. refl;
+}
+
+-- ** The instance
+
+tells-apart : (bits bits′ : List Bool) → drawnAndAnswered (true ∷ bits) ≡ drawnAndAnswered (false ∷ bits′) → ⊥
+tells-apart bits bits′ e = let z : _≡_ {A = ℕ} 0 1 = cc in omega arith
+
+-- what the calls do is computed
+pub demand3-instance : Demand3Instance
+unfolding callsOver callsRejecting rejecting drawing responding drawOver fives thresholdsFrom opened openRefusal leftBy drawLeft
+    drawServed refusalOfDraw drawRefusal bitsOfDraw respondLeft respondServed refusalOfRespond respondRefusal bitOfRespond Linked
+    NoneRefused AllAlike Agreeing history eventOf wordsBelow unless isDegree among allBelow isCdt wordsSmall neverFalls
+    isPolynomial sameWords polynomial polynomialFrom factorial isChallenge positionsBelow ascends allWithin drawBits bitsFrom
+    bitAt accepts sampleAt sample baseSample atOrBelow expWith expScaled reciprocal scaled evaluate squared squarings sampledBy
+    accepted drawY samplesFrom drawEntries entriesFrom attemptEntries placesUp placesDown filledPart respondedBy responseBit
+    responseZ responseOf measuresOf acceptsBy allPass coshPasses squareSum innerProduct product outputsFrom outputAt termAt respondEntries
+    productEntries outputEntriesFrom outputEntries
+demand3-instance =
+    let linked : Linked start (replicate 8 (pos 0)) calls = ((λ h. refl), ((λ h. refl), tt)) in
+    let linked′ : Linked start (replicate 8 (pos 1)) calls′ = ((λ h. refl), ((λ h. refl), tt)) in
+    let none-refused : NoneRefused start calls = (refl, (refl, tt)) in
+    let none-refused′ : NoneRefused start calls′ = (refl, (refl, tt)) in
+    let alike : AllAlike calls calls′ = (refl, (refl, tt)) in
+    let agreeing : Agreeing start calls calls′ = (
+      agree-on-first (fives 8) (replicate 32 0) (replicate 32 7) (thresholdsFrom 1 10) polynomial [] (entriesIn (leftBy start (draw (drawing 0 (pos 0) 0)))) refl,
+      (agree-on-first (0 ∷ 0 ∷ 0 ∷ []) (0 ∷ []) (7 ∷ []) [] polynomial (responding 0 (pos 0) 0 .key) (entriesIn (leftBy (nextIn (leftBy start (draw (drawing 0 (pos 0) 0)))) (respond (responding 0 (pos 0) 0)))) refl, tt),
+    ) in
+    let linked-rejecting : Linked start (replicate 8 (pos 0)) callsRejecting = ((λ h. refl), ((λ h. refl), tt)) in
+    let same = demand3 4 4 (replicate 8 (pos 0)) (replicate 8 (pos 1)) calls calls′ linked linked′ .1 refl none-refused none-refused′ alike agreeing in
+    let told = demand3 4 4 (replicate 8 (pos 0)) (replicate 8 (pos 0)) calls callsRejecting linked linked-rejecting .0 .0 in
+    record {
+      linked = linked;
+      linked′ = linked′;
+      none-refused = none-refused;
+      none-refused′ = none-refused′;
+      alike = alike;
+      agreeing = agreeing;
+      words-differ = λ e. let z = ap (λ (l : List ℕ). getD l 32 0) e in omega arith;
+      seen-same = same .0;
+      reads-same = same .1;
+      history-is = refl;
+      history-is′ = refl;
+      linked-rejecting = linked-rejecting;
+      none-refused-rejecting = (refl, (refl, tt));
+      history-is-rejecting = refl;
+      reads-differ = λ e. tells-apart (replicate 7 true) (replicate 8 true) (told e);
+    }

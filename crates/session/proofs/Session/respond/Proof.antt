@@ -1,0 +1,88 @@
+-- `session::Session::respond` meets its contract, refused or served. Assumes nothing.
+use borrow.Author.Needs.{needs}
+use mathlib.Core.Path.{_≡_, sym, ap, _∙_}
+use Prim.Native.Nat.{ℕ, _<_}
+use lib.Dec.{lit<}
+use lib.ListN.{length}
+use Rattle.checks.proofs.Laws.{degree-range}
+use Rattle.exponential.specs.Exponential.{expScaled}
+use Rattle.challenge.specs.Product.{product}
+use Rattle.response.specs.Response.{responseBit, Response, respondedBy}
+use Rattle.refusals.proofs.Served.{RespondServed}
+use Rattle.session.specs.declared.Session.{Session}
+use Rattle.session.specs.Calls.{Respond, refusalOfRespond, bitOfRespond, zOfRespond, respondRefused, respondServed, respondLeft}
+use Rattle.session.proofs.Deviation.{by-215}
+use Rattle.session.proofs.Calls.{respond-passed, served-respond-leaves, refused-respond-leaves}
+use Rattle.session.proofs.Session.respond.Statement.{statement}
+use Rattle.session.proofs.Session.respond.Tie as tie
+
+-- the call, as the definitions have it
+abbrev call : tie.Start → Respond
+call c =
+    let a = c .args in
+    record { challenge = a .challenge .now; polynomial = a .polynomial .now; words = a .words .now; key = a .key .now; y = a .y .now; z = a .z .now; list = a .list .now }
+
+respond-refusal-requires : tie.Need-respond-refusal-requires
+respond-refusal-requires c κs = search needs
+
+abbrev start : tie.After-respond-refusal → tie.Start
+start c = c .before .before .before .before .before .before
+
+refusal-is : (c : tie.After-respond-refusal) → c .respond-refusal .result ≡ refusalOfRespond (start c .args .self) (call (start c))
+unfolding refusalOfRespond
+refusal-is c = c .respond-refusal .ensures
+
+-- ** Refused
+
+same-length : tie.Need-same-length
+same-length c = search needs
+
+refused : (s : Session) (r : Respond) (refusal : ℕ) → refusal ≡ refusalOfRespond s r → (refusal ≡ 0 → ⊥) → respondRefused refusal s r ≡ respondLeft s r
+refused s r refusal e h = ap (λ (k : ℕ). respondRefused k s r) e ∙ sym (refused-respond-leaves s r (λ z. h (e ∙ z)))
+
+returns : tie.Need-returns
+unfolding respondRefused
+returns c = let r = c .before in refused (start r .args .self) (call (start r)) _ (refusal-is r) (c .if1 .taken)
+
+-- ** Served
+
+served : (c : tie.Else1) → refusalOfRespond (start (c .before) .args .self) (call (start (c .before))) ≡ 0
+served c = sym (refusal-is (c .before)) ∙ c .if1 .left
+
+passed : (c : tie.Else1) → let a = start (c .before) .args in
+    RespondServed (a .self .degree) (a .self .drawn) (a .challenge .now) (a .polynomial .now) (length (a .words .now)) (a .key .now) (a .y .now) (length (a .z .now)) (length (a .list .now))
+passed c = respond-passed (start (c .before) .args .self) (call (start (c .before))) (served c)
+
+respond-requires : tie.Need-respond-requires
+respond-requires c κs =
+    let k = passed (c .before .before .before) in
+    ((degree-range _ (k .degree) .1, k .below, k .few, k .is-polynomial, lit< tt, k .words-enough), (k .key-both, k .key-small, k .y-both, k .y-small, k .z-both, k .list-enough))
+
+same-length-2 : tie.Need-same-length-2
+same-length-2 c = search needs
+
+same-length-3 : tie.Need-same-length-3
+same-length-3 c = search needs
+
+same-length-4 : tie.Need-same-length-4
+same-length-4 c = search needs
+
+responded-leaves : (s : Session) (r : Respond) (response : Response) → refusalOfRespond s r ≡ 0
+    → response ≡ respondedBy (s .degree) (responseBit (expScaled (r .polynomial) 3269134179596076729) (r .y) (product (r .key) (s .degree) (r .challenge)) (r .words)) (r .challenge) (zOfRespond s r) (r .list)
+    → respondServed (s .degree) response ≡ respondLeft s r
+unfolding bitOfRespond
+responded-leaves s r response h e =
+    ap (respondServed (s .degree)) (e ∙ ap (λ (f : ℕ → ℕ). respondedBy (s .degree) (responseBit f (r .y) (product (r .key) (s .degree) (r .challenge)) (r .words)) (r .challenge) (zOfRespond s r) (r .list)) (by-215 (r .polynomial)))
+    ∙ sym (served-respond-leaves s r h)
+
+returns-2 : tie.Need-returns-2
+unfolding respondServed zOfRespond
+returns-2 c =
+    let r = c .before .before .before .before in
+    let other = r .before .before .before .before in
+    responded-leaves (start (other .before) .args .self) (call (start (other .before))) _ (served other) (r .respond .ensures)
+
+pub respond-spec : {M : Type 1} → statement M
+respond-spec =
+    tie.close
+    (tie.spec respond-refusal-requires same-length returns respond-requires same-length-2 same-length-3 same-length-4 returns-2)

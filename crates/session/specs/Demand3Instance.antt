@@ -1,0 +1,97 @@
+-- Demand 3 at degree 4: two lists of calls that are lent different words at places that are not read, and a third with another history.
+-- Assumes nothing.
+use mathlib.Core.Path.{_≡_}
+use mathlib.Core.Bool.{Bool, true, false}
+use mathlib.Core.List.{List, [], _∷_, _++_}
+use Prim.Native.Nat.{ℕ, zero, suc, _*_, _^_}
+use lib.IntN.{ℤ, pos, negsuc}
+use lib.ListN.{replicate}
+use Rattle.exponential.specs.Exponential.{polynomial}
+use Rattle.session.specs.declared.Session.{Session}
+use Rattle.session.specs.Calls.{opened, Draw, Respond}
+use Rattle.session.specs.Histories.{Call, draw, respond, Linked, readList, Event, drew, answered, history}
+use Rattle.session.specs.Demand3.{NoneRefused, AllAlike, Agreeing, seen}
+
+-- ** What is lent
+
+-- count thresholds, from threshold i on: the high word i * 2 ^ 40, then the low word 0
+unfoldable pub thresholdsFrom : (i count : ℕ) → List ℕ
+thresholdsFrom i zero = []
+thresholdsFrom i (suc count) = i * 2 ^ 40 ∷ 0 ∷ thresholdsFrom (suc i) count
+
+-- the words of so many attempts, each accepted with the sample 5: d is 0, the low bits are 5, the sign is 0, and u is 0
+unfoldable pub fives : (count : ℕ) → List ℕ
+fives zero = []
+fives (suc count) = 0 ∷ 0 ∷ 5 ∷ 0 ∷ fives count
+
+-- ** The calls
+
+-- a draw within 16 attempts
+unfoldable pub drawOver : (words : List ℕ) (y : List ℤ) (list : List ℕ) → Draw
+drawOver words y list = record { limit = 16; cdt = thresholdsFrom 1 10; polynomial = polynomial; words = words; y = y; list = list }
+
+-- eight attempts, all accepted, and 32 words behind them that are not read
+unfoldable pub drawing : (unread : ℕ) (before : ℤ) (filler : ℕ) → Draw
+drawing unread before filler = drawOver (fives 8 ++ replicate 32 unread) (replicate 8 before) (replicate 738 filler)
+
+-- nine attempts: the first, of size 0 and sign 1, is not accepted
+unfoldable pub rejecting : Draw
+rejecting = drawOver (0 ∷ 0 ∷ 256 ∷ 0 ∷ (fives 8 ++ replicate 28 0)) (replicate 8 (pos 0)) (replicate 738 0)
+
+-- a respond to the challenge 0, 2, over the samples of such a draw, with a word behind the third that is not read
+unfoldable pub responding : (unread : ℕ) (before : ℤ) (filler : ℕ) → Respond
+responding unread before filler = record {
+  challenge = 0 ∷ 2 ∷ [];
+  polynomial = polynomial;
+  words = 0 ∷ 0 ∷ 0 ∷ unread ∷ [];
+  key = pos 1 ∷ pos 0 ∷ negsuc 0 ∷ pos 2 ∷ pos 3 ∷ negsuc 1 ∷ pos 0 ∷ pos 1 ∷ [];
+  y = replicate 8 (pos 5);
+  z = replicate 8 before;
+  list = replicate 63 filler;
+}
+
+-- a draw, then a respond, with these words that are not read, this y and this z before them, and these lists
+unfoldable pub callsOver : (unread : ℕ) (before : ℤ) (filler : ℕ) → List Call
+callsOver unread before filler = draw (drawing unread before filler) ∷ respond (responding unread before filler) ∷ []
+
+abbrev pub calls : List Call
+calls = callsOver 0 (pos 0) 0
+
+abbrev pub calls′ : List Call
+calls′ = callsOver 7 (pos 1) 9
+
+-- the first list with such a draw instead
+unfoldable pub callsRejecting : List Call
+callsRejecting = draw rejecting ∷ respond (responding 0 (pos 0) 0) ∷ []
+
+-- the session of degree 4, just opened
+abbrev pub start : Session
+start = opened 4 .session
+
+-- the history of a full draw with these bits, and of an accepted response
+abbrev pub drawnAndAnswered : (bits : List Bool) → List Event
+drawnAndAnswered bits = drew 4 bits ∷ answered 4 true (0 ∷ 2 ∷ []) ∷ []
+
+-- ** What demand 3 says of them
+
+pub record Demand3Instance : Type 0 where
+  -- all that the second half asks for
+  pub linked : Linked start (replicate 8 (pos 0)) calls
+  pub linked′ : Linked start (replicate 8 (pos 1)) calls′
+  pub none-refused : NoneRefused start calls
+  pub none-refused′ : NoneRefused start calls′
+  pub alike : AllAlike calls calls′
+  pub agreeing : Agreeing start calls calls′
+  -- and yet the words that the two draws are lent differ
+  pub words-differ : drawing 0 (pos 0) 0 .words ≡ drawing 7 (pos 1) 9 .words → ⊥
+  -- what the second half gives
+  pub seen-same : seen start calls ≡ seen start calls′
+  pub reads-same : readList start calls ≡ readList start calls′
+  -- the history of both
+  pub history-is : history start calls ≡ drawnAndAnswered (replicate 8 true)
+  pub history-is′ : history start calls′ ≡ drawnAndAnswered (replicate 8 true)
+  -- with another history, and so by the first half another read list
+  pub linked-rejecting : Linked start (replicate 8 (pos 0)) callsRejecting
+  pub none-refused-rejecting : NoneRefused start callsRejecting
+  pub history-is-rejecting : history start callsRejecting ≡ drawnAndAnswered (false ∷ replicate 8 true)
+  pub reads-differ : readList start calls ≡ readList start callsRejecting → ⊥

@@ -1,0 +1,83 @@
+-- Laws of sums over vectors: their bounds, and one place more. Assumes nothing.
+use mathlib.Core.Path.{_≡_, refl, sym, ap, ap₂, _∙_}
+use mathlib.Core.Bool.{Bool, true, _&&_, and-eq-true-iff}
+use mathlib.Core.List.{List, [], _∷_, _++_}
+use Prim.Native.Nat.{ℕ, zero, suc, _+_, _*_, _≤_, _<_}
+use native.Mathlib.Nat.{mul-le-mul, le-trans, le-refl, add-assoc, add-le-add}
+use native.Mathlib.Omega.{arith}
+use lib.Dec.{leb}
+use lib.IntN.{ℤ, pos, natAbs, _+ℤ_, _*ℤ_}
+use lib.ListN.{length, getD, drop}
+use lib.Seq.{drop-cons}
+use borrow.Author.Tests.{leb-true, le-leb}
+use Rattle.signed.specs.Vectors.{allWithin, squareSum, innerProduct}
+use Rattle.signed.proofs.Signs.{abs-add, abs-mul}
+
+-- ** Ranges
+
+-- the first value is within the bound, and the others are
+pub within-parts : (bound : ℕ) (v : ℤ) (values : List ℤ) → allWithin bound (v ∷ values) ≡ true → (natAbs v ≤ bound) × (allWithin bound values ≡ true)
+unfolding allWithin
+within-parts bound v values h =
+    let parts = and-eq-true-iff (leb (natAbs v) bound) (allWithin bound values) .0 h in
+    (leb-true (natAbs v) bound (parts .0), parts .1)
+
+pub within-none : (bound : ℕ) → allWithin bound [] ≡ true
+unfolding allWithin
+within-none bound = refl
+
+pub within-more : (bound : ℕ) (v : ℤ) (values : List ℤ) → natAbs v ≤ bound → allWithin bound values ≡ true → allWithin bound (v ∷ values) ≡ true
+unfolding allWithin
+within-more bound v values h g = rw (le-leb (natAbs v) bound h, g)
+
+-- every value is within the bound, and so is what stands for values behind the last
+pub within-at : (bound : ℕ) (values : List ℤ) → allWithin bound values ≡ true → (i : ℕ) → natAbs (getD values i (pos 0)) ≤ bound
+within-at bound [] h i = omega arith
+within-at bound (v ∷ values) h zero = within-parts bound v values h .0
+within-at bound (v ∷ values) h (suc i) = within-at bound values (within-parts bound v values h .1) i
+
+pub within-append : (bound : ℕ) (as′ bs : List ℤ) → allWithin bound as′ ≡ true → allWithin bound bs ≡ true → allWithin bound (as′ ++ bs) ≡ true
+within-append bound [] bs h g = g
+within-append bound (a ∷ as′) bs h g = let parts = within-parts bound a as′ h in within-more bound a (as′ ++ bs) (parts .0) (within-append bound as′ bs (parts .1) g)
+
+-- ** The sum of squares
+
+pub squares-none : squareSum [] ≡ 0
+unfolding squareSum
+squares-none = refl
+
+pub squares-within : (bound : ℕ) (values : List ℤ) → allWithin bound values ≡ true → squareSum values ≤ bound * bound * length values
+unfolding squareSum
+squares-within bound [] h = omega arith
+squares-within bound (v ∷ values) h =
+    let parts = within-parts bound v values h in
+    omega (arith, mul-le-mul (parts .0) (parts .0), squares-within bound values (parts .1))
+
+pub squares-append : (as′ bs : List ℤ) → squareSum (as′ ++ bs) ≡ squareSum as′ + squareSum bs
+unfolding squareSum
+squares-append [] bs = omega arith
+squares-append (a ∷ as′) bs = omega (arith, squares-append as′ bs)
+
+-- the values from place i on
+pub squares-from : (values : List ℤ) (i : ℕ) → i < length values → squareSum (drop i values) ≡ natAbs (getD values i (pos 0)) * natAbs (getD values i (pos 0)) + squareSum (drop (suc i) values)
+unfolding squareSum
+squares-from values i h = rw (drop-cons values i (pos 0) h)
+
+-- ** The sum of products
+
+pub inner-from : (a b : List ℤ) (i : ℕ) → i < length a → i < length b → innerProduct (drop i a) (drop i b) ≡ (getD a i (pos 0) *ℤ getD b i (pos 0)) +ℤ innerProduct (drop (suc i) a) (drop (suc i) b)
+unfolding innerProduct
+inner-from a b i h g = rw (drop-cons a i (pos 0) h, drop-cons b i (pos 0) g)
+
+pub inner-none : (b : List ℤ) → innerProduct [] b ≡ pos 0
+unfolding innerProduct
+inner-none b = refl
+
+pub inner-within : (p q : ℕ) (a b : List ℤ) → allWithin p a ≡ true → allWithin q b ≡ true → natAbs (innerProduct a b) ≤ p * q * length b
+unfolding innerProduct
+inner-within p q [] b h g = omega arith
+inner-within p q (v ∷ a) [] h g = omega arith
+inner-within p q (v ∷ a) (w ∷ b) h g =
+    let ha = within-parts p v a h in
+    let hb = within-parts q w b g in
+    omega (arith, abs-add (v *ℤ w) (innerProduct a b), abs-mul v w, mul-le-mul (ha .0) (hb .0), inner-within p q a b (ha .1) (hb .1))
