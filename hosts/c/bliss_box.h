@@ -21,12 +21,18 @@ extern "C" {
 enum {
     BLISS_SERVED = 0,
     BLISS_REFUSED_DEGREE = 1,      /* the degree is not a power of two from 4 to 1024 */
-    BLISS_REFUSED_LENGTHS = 2,     /* the CDT is not 20 words, the polynomial table not 21, or y not 2n */
+    BLISS_REFUSED_LENGTHS = 2,     /* the CDT is not 20 words, the polynomial table not 21, or y, z or the key not 2n */
     BLISS_REFUSED_CDT = 3,         /* a CDT word is 2^62 or more, or a threshold is below the one before */
     BLISS_REFUSED_POLYNOMIAL = 4,  /* an entry of the polynomial table is not the whole part of 2^62 / j! */
     BLISS_REFUSED_LIMIT = 5,       /* the limit is outside 2n to 32n */
-    BLISS_REFUSED_WORDS = 7,       /* there are fewer than 4 words for each attempt */
-    BLISS_REFUSED_LIST = 8         /* the list is shorter than 46 entries for each attempt and 2 more */
+    BLISS_REFUSED_CHALLENGE = 6,   /* the challenge is empty, longer than 64 or than n, has a position of n or more, or does
+                                      not ascend strictly */
+    BLISS_REFUSED_WORDS = 7,       /* there are fewer than 4 words for each attempt of a draw, or than 3 for a response */
+    BLISS_REFUSED_LIST = 8,        /* the list is shorter than 46 entries for each attempt of a draw and 2 more, or than 2n for
+                                      each position of a challenge and 47 more */
+    BLISS_REFUSED_NOT_DRAWN = 9,   /* a response while nothing is drawn */
+    BLISS_REFUSED_KEY = 10,        /* a value of the key is outside -7 to 7 */
+    BLISS_REFUSED_Y = 11           /* a value of y is outside -2815 to 2815 */
 };
 
 /* A degree, and whether y is drawn. Each call takes a session and hands back the next one: use that one from then on. */
@@ -53,6 +59,18 @@ typedef struct {
     bliss_session session;
 } bliss_drawn;
 
+/* What a response came to; refused, the bit is false and the count 0. */
+typedef struct {
+    uint32_t refusal;
+    bool bit;       /* true: z is the response; false: it is rejected */
+    size_t entries; /* written from the start of the list */
+} bliss_respond_answer;
+
+typedef struct {
+    bliss_respond_answer answer;
+    bliss_session session;
+} bliss_responded;
+
 /* The layout that the archive has, on x86-64. */
 #ifdef __cplusplus
 #define BLISS_LAYOUT(claim) static_assert(claim, "a layout that the archive does not have")
@@ -64,14 +82,21 @@ BLISS_LAYOUT(sizeof(bliss_opened) == 24 && offsetof(bliss_opened, session) == 8)
 BLISS_LAYOUT(sizeof(bliss_draw_answer) == 32 && offsetof(bliss_draw_answer, attempts) == 8);
 BLISS_LAYOUT(offsetof(bliss_draw_answer, accepted) == 16 && offsetof(bliss_draw_answer, entries) == 24);
 BLISS_LAYOUT(sizeof(bliss_drawn) == 48 && offsetof(bliss_drawn, session) == 32);
+BLISS_LAYOUT(sizeof(bliss_respond_answer) == 16 && offsetof(bliss_respond_answer, bit) == 4);
+BLISS_LAYOUT(offsetof(bliss_respond_answer, entries) == 8);
+BLISS_LAYOUT(sizeof(bliss_responded) == 32 && offsetof(bliss_responded, session) == 16);
 #undef BLISS_LAYOUT
 
-/* The lengths that a draw asks for, at degree n and with a limit of attempts. */
+/* The lengths that calls ask for, at degree n: of the tables; of y, z and the key; for a draw with a limit of attempts; and for a
+ * response to a challenge of so many positions, at most BLISS_CHALLENGE_LIMIT. */
 #define BLISS_CDT_WORDS 20
 #define BLISS_POLYNOMIAL_WORDS 21
 #define BLISS_SAMPLES(n) (2 * (size_t)(n))
 #define BLISS_DRAW_WORDS(limit) (4 * (size_t)(limit))
 #define BLISS_DRAW_ENTRIES(limit) (46 * (size_t)(limit) + 2)
+#define BLISS_CHALLENGE_LIMIT(n) ((size_t)(n) < 64 ? (size_t)(n) : (size_t)64)
+#define BLISS_RESPOND_WORDS 3
+#define BLISS_RESPOND_ENTRIES(n, positions) (2 * (size_t)(n) * (size_t)(positions) + 47)
 
 /* Opens a session of degree n.
  * Gives: a session with nothing drawn; refused, one of degree 0.
@@ -93,6 +118,27 @@ bliss_drawn bliss_draw(bliss_session session, size_t limit,                  //
                        const uint64_t *words, size_t words_length,           //
                        int32_t *y, size_t y_length,                          //
                        uint32_t *list, size_t list_length);
+
+/* Turns the noise y, a key and a challenge into a response z, or into a rejection.
+ * Needs:   y, z and list writable, and apart from each other and from the rest: z must not overlap y. The key is s1 and then s2,
+ *          the challenge its positions in ascending order.
+ * Gives:   bit true: z is y plus or minus the product of key and challenge modulo X^n + 1; or bit false, a rejection: z is all
+ *          zero. Either way y is all zero and the next session is not drawn, so that the noise is used once: a rejection wants a
+ *          new draw. Each read of the key, the words and the polynomial is listed from the start of the list, and last the bit;
+ *          bliss_filled gives the filled part.
+ * Refuses: 1, 2, 4, 6, 7, 8, 9, 10, 11, in this order.
+ * Leaves:  the list behind the entries, the challenge, the polynomial, the words and the key; refused, everything.
+ * Time:    no jump and no address hangs on words, key, y or z, except by the response's bit, which the list shows, and by refusals
+ *          10 and 11. The challenge shows, that of a rejection too.
+ * The words must be fresh random words, used for this response alone. */
+bliss_responded bliss_respond(bliss_session session,                                //
+                              const uint32_t *challenge, size_t challenge_length,   //
+                              const uint64_t *polynomial, size_t polynomial_length, //
+                              const uint64_t *words, size_t words_length,           //
+                              const int32_t *key, size_t key_length,                //
+                              int32_t *y, size_t y_length,                          //
+                              int32_t *z, size_t z_length,                          //
+                              uint32_t *list, size_t list_length);
 
 /* The length of the filled part of a list, for the count of entries of an answer. The part starts where the list starts.
  * Gives: the count; 0 where it is over the list's length. */
