@@ -1,8 +1,10 @@
 //! The BLISS-I sampling box for a Rust host. It draws the noise vector y of a signature from random words that the host
-//! supplies, and lists every place that it reads. Document 01 is the definition of the box.
+//! supplies, turns y, a key and a challenge into a response or a rejection, and lists every place that it reads. Document 01 is
+//! the definition of the box.
 //!
 //! ```
-//! use bliss_box::{filled, list_length, sample_count, word_count, Session, CDT, POLYNOMIAL};
+//! use bliss_box::{filled, list_length, respond_list_length, sample_count, word_count};
+//! use bliss_box::{Session, CDT, POLYNOMIAL, RESPOND_WORDS};
 //!
 //! const N: usize = 4;
 //! const LIMIT: usize = 62;
@@ -17,6 +19,16 @@
 //! assert!(drawn.session.is_drawn());
 //! assert_eq!(counts.accepted, sample_count(N));
 //! assert_eq!(filled(&list, counts.entries).len(), counts.entries);
+//!
+//! // Fresh words here too. The key is s1 and then s2.
+//! let words = [0; RESPOND_WORDS];
+//! let challenge = [1];
+//! let key = [1, 2, 3, 4, 0, 0, 0, 0];
+//! let mut z = [0; sample_count(N)];
+//! let mut list = vec![0; respond_list_length(N, challenge.len())];
+//! let responded = drawn.session.respond(&challenge, &POLYNOMIAL, &words, &key, &mut y, &mut z, &mut list);
+//! assert!(responded.answer?.bit);
+//! assert_eq!(z, [-4, 1, 2, 3, 0, 0, 0, 0]);
 //! # Ok::<(), bliss_box::Refusal>(())
 //! ```
 //!
@@ -28,9 +40,10 @@ mod refusal;
 mod tables;
 
 pub use refusal::Refusal;
-pub use tables::{list_length, sample_count, word_count, CDT, POLYNOMIAL};
+pub use tables::{challenge_limit, list_length, respond_list_length, sample_count, word_count};
+pub use tables::{CDT, POLYNOMIAL, RESPOND_WORDS};
 
-/// A degree, and whether y is drawn. A draw takes the session and hands back the next one, so that none is used twice:
+/// A degree, and whether y is drawn. A draw or a response takes the session and hands back the next one, so that none is used twice:
 ///
 /// ```compile_fail,E0382
 /// use bliss_box::{Session, CDT, POLYNOMIAL};
@@ -62,6 +75,23 @@ pub struct Drawn {
     pub session: Session,
 }
 
+/// What a served response came to.
+#[derive(Clone, Copy, Debug, PartialEq, Eq)]
+pub struct Outcome {
+    /// True: z is the response. False: it is rejected, and z is all zero.
+    pub bit: bool,
+    /// The entries written from the start of the list.
+    pub entries: usize,
+}
+
+/// The answer to a respond call, and the next session. A refused call hands back the session that it took.
+#[derive(Debug, PartialEq, Eq)]
+#[must_use]
+pub struct Responded {
+    pub answer: Result<Outcome, Refusal>,
+    pub session: Session,
+}
+
 impl Session {
     /// A session of degree `n` with nothing drawn. Refuses an `n` that is not a power of two from 4 to 1,024.
     pub fn open(n: usize) -> Result<Session, Refusal> {
@@ -78,7 +108,7 @@ impl Session {
         self.0.degree
     }
 
-    /// Whether the last draw that was not refused was full, so that y holds 2n samples.
+    /// Whether the last call that was not refused was a full draw, so that y holds 2n samples.
     pub fn is_drawn(&self) -> bool {
         self.0.drawn
     }
@@ -113,6 +143,54 @@ impl Session {
         };
         let counts = Counts { attempts: drawn.answer.attempts, accepted: drawn.answer.accepted, entries: drawn.answer.entries };
         Drawn { answer: Refusal::of_answer(drawn.answer.refusal).map_or(Ok(counts), Err), session: Session(drawn.session) }
+    }
+
+    /// Turns `y`, the key (s1 and then s2) and the challenge (its positions, ascending) into the response `z` or a rejection, and
+    /// lists its reads from the start of `list`.
+    ///
+    /// Bit true: `z` is y plus or minus the product of key and challenge modulo X^n + 1. Bit false: `z` is all zero, and a new try
+    /// needs a new draw. Either way `y` is all zero, and the next session has nothing drawn. The rest of `list` is unchanged. A
+    /// refused call changes neither `y` nor `z` nor `list`.
+    ///
+    /// The words must be fresh random words, as many as [`RESPOND_WORDS`] or more, used for this response alone. With noise drawn
+    /// by [`CDT`] a response is accepted with a chance of about 0.61, and never where the product's sum of squares is above
+    /// 46,225.
+    #[allow(clippy::too_many_arguments)]
+    pub fn respond(
+        self,
+        challenge: &[u32],
+        polynomial: &[u64],
+        words: &[u64],
+        key: &[i32],
+        y: &mut [i32],
+        z: &mut [i32],
+        list: &mut [u32],
+    ) -> Responded {
+        // SAFETY: as for a draw; the three buffers that are written are borrowed for this call alone.
+        let responded = unsafe {
+            raw::bliss_respond(
+                self.0,
+                challenge.as_ptr(),
+                challenge.len(),
+                polynomial.as_ptr(),
+                polynomial.len(),
+                words.as_ptr(),
+                words.len(),
+                key.as_ptr(),
+                key.len(),
+                y.as_mut_ptr(),
+                y.len(),
+                z.as_mut_ptr(),
+                z.len(),
+                list.as_mut_ptr(),
+                list.len(),
+            )
+        };
+        let outcome = Outcome { bit: responded.answer.bit, entries: responded.answer.entries };
+        Responded {
+            answer: Refusal::of_answer(responded.answer.refusal).map_or(Ok(outcome), Err),
+            session: Session(responded.session),
+        }
     }
 }
 

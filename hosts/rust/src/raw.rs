@@ -37,6 +37,23 @@ pub struct Drawn {
     pub session: Session,
 }
 
+/// `bliss_respond_answer`: refusal 0 is a served response; the bit of a refused one is false, and its count 0.
+#[repr(C)]
+#[derive(Clone, Copy, Debug, PartialEq, Eq)]
+pub struct RespondAnswer {
+    pub refusal: u32,
+    pub bit: bool,
+    pub entries: usize,
+}
+
+/// `bliss_responded`.
+#[repr(C)]
+#[derive(Clone, Copy, Debug, PartialEq, Eq)]
+pub struct Responded {
+    pub answer: RespondAnswer,
+    pub session: Session,
+}
+
 // The layout of the C structures on x86-64: words of eight bytes, each field at its own alignment.
 const _: () = {
     assert!(size_of::<Session>() == 16);
@@ -56,6 +73,15 @@ const _: () = {
     assert!(size_of::<Drawn>() == 48);
     assert!(offset_of!(Drawn, answer) == 0);
     assert!(offset_of!(Drawn, session) == 32);
+
+    assert!(size_of::<RespondAnswer>() == 16);
+    assert!(offset_of!(RespondAnswer, refusal) == 0);
+    assert!(offset_of!(RespondAnswer, bit) == 4);
+    assert!(offset_of!(RespondAnswer, entries) == 8);
+
+    assert!(size_of::<Responded>() == 32);
+    assert!(offset_of!(Responded, answer) == 0);
+    assert!(offset_of!(Responded, session) == 16);
 };
 
 extern "C" {
@@ -78,6 +104,26 @@ extern "C" {
         list: *mut u32,
         list_length: usize,
     ) -> Drawn;
+
+    /// Takes any session. Each pointer must be aligned and valid for its length in values, `y`, `z` and `list` for writing too,
+    /// and none of these three may overlap any other buffer.
+    pub fn bliss_respond(
+        session: Session,
+        challenge: *const u32,
+        challenge_length: usize,
+        polynomial: *const u64,
+        polynomial_length: usize,
+        words: *const u64,
+        words_length: usize,
+        key: *const i32,
+        key_length: usize,
+        y: *mut i32,
+        y_length: usize,
+        z: *mut i32,
+        z_length: usize,
+        list: *mut u32,
+        list_length: usize,
+    ) -> Responded;
 
     /// The length of the filled part, which starts where the list starts. `list` must be aligned and valid for its length in
     /// entries.

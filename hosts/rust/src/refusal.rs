@@ -7,7 +7,7 @@ use std::fmt;
 pub enum Refusal {
     /// The degree is not a power of two from 4 to 1,024.
     Degree,
-    /// A table or y has another length than it must have.
+    /// A table, y, z or the key has another length than it must have.
     Lengths,
     /// A word of the CDT table is 2^62 or more, or a threshold is below the one before.
     Cdt,
@@ -15,23 +15,35 @@ pub enum Refusal {
     Polynomial,
     /// The limit is outside 2n to 32n.
     Limit,
-    /// There are fewer than four words for each attempt.
+    /// The challenge is empty, longer than 64 or than n, has a position of n or more, or does not ascend strictly.
+    Challenge,
+    /// There are fewer than four words for each attempt of a draw, or than three for a response.
     Words,
-    /// The list is too short for as many attempts as the limit allows.
+    /// The list is too short for as many attempts as the limit allows, or for the positions of the challenge.
     List,
+    /// A response was asked for while nothing is drawn.
+    NotDrawn,
+    /// A value of the key is outside -7 to 7.
+    Key,
+    /// A value of y is outside -2,815 to 2,815.
+    Y,
     /// The exponential by N alone was asked for an N above 5,534,960.
     Exponential,
 }
 
 impl Refusal {
-    const ALL: [Refusal; 8] = [
+    const ALL: [Refusal; 12] = [
         Refusal::Degree,
         Refusal::Lengths,
         Refusal::Cdt,
         Refusal::Polynomial,
         Refusal::Limit,
+        Refusal::Challenge,
         Refusal::Words,
         Refusal::List,
+        Refusal::NotDrawn,
+        Refusal::Key,
+        Refusal::Y,
         Refusal::Exponential,
     ];
 
@@ -43,8 +55,12 @@ impl Refusal {
             Refusal::Cdt => 3,
             Refusal::Polynomial => 4,
             Refusal::Limit => 5,
+            Refusal::Challenge => 6,
             Refusal::Words => 7,
             Refusal::List => 8,
+            Refusal::NotDrawn => 9,
+            Refusal::Key => 10,
+            Refusal::Y => 11,
             Refusal::Exponential => 12,
         }
     }
@@ -63,12 +79,21 @@ impl fmt::Display for Refusal {
     fn fmt(&self, f: &mut fmt::Formatter) -> fmt::Result {
         let reason = match self {
             Refusal::Degree => "the degree is not a power of two from 4 to 1024",
-            Refusal::Lengths => "the CDT is not 20 words, the polynomial table not 21, or y not 2n",
+            Refusal::Lengths => "the CDT is not 20 words, the polynomial table not 21, or y, z or the key not 2n",
             Refusal::Cdt => "a word of the CDT is 2^62 or more, or a threshold is below the one before",
             Refusal::Polynomial => "an entry of the polynomial table is not the whole part of 2^62 / j!",
             Refusal::Limit => "the limit is outside 2n to 32n attempts",
-            Refusal::Words => "there are fewer words than 4 for each attempt",
-            Refusal::List => "the list is shorter than 46 entries for each attempt and 2 more",
+            Refusal::Challenge => {
+                "the challenge is empty, longer than 64 or than n, has a position of n or more, or does not ascend strictly"
+            }
+            Refusal::Words => "there are fewer words than 4 for each attempt of a draw, or than 3 for a response",
+            Refusal::List => {
+                "the list is shorter than 46 entries for each attempt of a draw and 2 more, \
+                 or than 2n for each position of a challenge and 47 more"
+            }
+            Refusal::NotDrawn => "nothing is drawn to respond with",
+            Refusal::Key => "a value of the key is outside -7 to 7",
+            Refusal::Y => "a value of y is outside -2815 to 2815",
             Refusal::Exponential => "N is above 5534960",
         };
         write!(f, "refusal {}: {reason}", self.number())

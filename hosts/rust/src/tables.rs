@@ -1,6 +1,6 @@
 //! The tables that a host lends, and the sizes of what it lends.
 
-/// The polynomial table, the one that a draw accepts: entry j is the whole part of 2^62 / j!.
+/// The polynomial table, the one that draws and responses accept: entry j is the whole part of 2^62 / j!.
 pub const POLYNOMIAL: [u64; 21] = polynomial();
 
 /// The whole part of a quotient's whole part, over j, is that of the whole quotient: no factorial is needed.
@@ -30,7 +30,7 @@ pub const CDT: [u64; 20] = [
     4611686018427387903, 4611686018425147250,
 ];
 
-/// The samples that a draw makes at degree `n`: the length of y.
+/// The samples that a draw makes at degree `n`: the length of y, and of z and the key.
 pub const fn sample_count(n: usize) -> usize {
     2 * n
 }
@@ -43,4 +43,21 @@ pub const fn word_count(limit: usize) -> usize {
 /// The list entries that a draw of at most `limit` attempts must be lent.
 pub const fn list_length(limit: usize) -> usize {
     46 * limit + 2
+}
+
+/// The most positions that a challenge may have at degree `n`.
+pub const fn challenge_limit(n: usize) -> usize {
+    if n < 64 {
+        n
+    } else {
+        64
+    }
+}
+
+/// The words that a response must be lent.
+pub const RESPOND_WORDS: usize = 3;
+
+/// The list entries that a response to a challenge of so many positions must be lent at degree `n`: just as many as it writes.
+pub const fn respond_list_length(n: usize, positions: usize) -> usize {
+    2 * n * positions + 47
 }
