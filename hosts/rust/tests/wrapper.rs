@@ -1,6 +1,7 @@
 //! The safe functions: what they hand back, served and refused.
 
-use bliss_box::{exponential, filled, list_length, sample_count, word_count, Counts, Refusal, Session, CDT, POLYNOMIAL};
+use bliss_box::{challenge_limit, exponential, filled, list_length, respond_list_length, sample_count, word_count};
+use bliss_box::{Counts, Outcome, Refusal, Responded, Session, CDT, POLYNOMIAL, RESPOND_WORDS};
 
 const N: usize = 4;
 const LIMIT: usize = 2 * N;
@@ -18,6 +19,16 @@ fn drawn_session() -> Session {
     let (drawn, ..) = draw(Session::open(N).unwrap(), 0);
     assert!(drawn.session.is_drawn());
     drawn.session
+}
+
+/// Responds with words of 0, which reject nothing that may pass, y of all zero before, z of all fives and a list of all nines.
+fn respond(session: Session, challenge: &[u32], key: &[i32]) -> (Responded, Vec<i32>, Vec<u32>) {
+    let mut y = vec![0; sample_count(N)];
+    let mut z = vec![5; sample_count(N)];
+    let mut list = vec![9; respond_list_length(N, challenge.len())];
+    let responded = session.respond(challenge, &POLYNOMIAL, &[0; RESPOND_WORDS], key, &mut y, &mut z, &mut list);
+    assert_eq!(y, [0; 8]);
+    (responded, z, list)
 }
 
 #[test]
@@ -92,6 +103,73 @@ fn each_refusal_of_a_draw_is_typed() {
 }
 
 #[test]
+fn an_accepted_response_clears_drawn() {
+    let (responded, z, list) = respond(drawn_session(), &[1], &[1, 2, 3, 4, 0, 0, 0, 7]);
+    assert_eq!(responded.answer, Ok(Outcome { bit: true, entries: 55 }));
+    assert!(!responded.session.is_drawn());
+    assert_eq!(responded.session.degree(), N);
+    assert_eq!(z, [-4, 1, 2, 3, -7, 0, 0, 0]);
+    assert_eq!(list[..5], [(7 << 24) + 4, (8 << 24) + 3, 8 << 24, (8 << 24) + 1, (8 << 24) + 2]);
+    assert_eq!(list[54], (9 << 24) + 1);
+
+    let (refused, ..) = respond(responded.session, &[1], &[0; 8]);
+    assert_eq!(refused.answer, Err(Refusal::NotDrawn));
+    assert!(draw(refused.session, 0).0.session.is_drawn());
+}
+
+#[test]
+fn a_rejected_response_leaves_nothing() {
+    // Word 1 of all ones is above e(N1), unless A is 46,225 or more.
+    let mut y = [3; sample_count(N)];
+    let mut z = [5; sample_count(N)];
+    let mut list = [9; respond_list_length(N, 2)];
+    let words = [0, u64::MAX, 0];
+    let rejected = drawn_session().respond(&[0, 3], &POLYNOMIAL, &words, &[1; 8], &mut y, &mut z, &mut list);
+    assert_eq!(rejected.answer, Ok(Outcome { bit: false, entries: 63 }));
+    assert!(!rejected.session.is_drawn());
+    assert_eq!((y, z), ([0; 8], [0; 8]));
+    assert_eq!(list[62], 9 << 24);
+}
+
+#[test]
+fn the_known_products_hold() {
+    let z = |challenge: &[u32]| respond(drawn_session(), challenge, &[1, 2, 3, 4, 0, 0, 0, 0]).1;
+    assert_eq!(z(&[1])[..4], [-4, 1, 2, 3]);
+    assert_eq!(z(&[0, 3])[..4], [-1, -1, -1, 5]);
+}
+
+#[test]
+fn a_refused_response_hands_the_session_back() {
+    let (refused, z, list) = respond(drawn_session(), &[2, 2], &[0; 8]);
+    assert_eq!(refused.answer, Err(Refusal::Challenge));
+    assert!(refused.session.is_drawn());
+    assert_eq!(z, [5; 8]);
+    assert_eq!(list, [9; 63]);
+
+    let (served, ..) = respond(refused.session, &[2], &[0; 8]);
+    assert_eq!(served.answer, Ok(Outcome { bit: true, entries: 55 }));
+}
+
+#[test]
+fn each_refusal_of_a_response_is_typed() {
+    let mut damaged = POLYNOMIAL;
+    damaged[19] = 38;
+    let refusal = |polynomial: &[u64], challenge: &[u32], words, list, key: i32, y: i32| {
+        let words = vec![0; words];
+        let mut list = vec![0; list];
+        let mut z = [0; 8];
+        drawn_session().respond(challenge, polynomial, &words, &[key; 8], &mut [y; 8], &mut z, &mut list).answer.unwrap_err()
+    };
+    assert_eq!(refusal(&POLYNOMIAL[..20], &[1], 3, 55, 7, 2815), Refusal::Lengths);
+    assert_eq!(refusal(&damaged, &[1], 3, 55, 7, 2815), Refusal::Polynomial);
+    assert_eq!(refusal(&POLYNOMIAL, &[4], 3, 55, 7, 2815), Refusal::Challenge);
+    assert_eq!(refusal(&POLYNOMIAL, &[1], 2, 55, 7, 2815), Refusal::Words);
+    assert_eq!(refusal(&POLYNOMIAL, &[1], 3, 54, 7, 2815), Refusal::List);
+    assert_eq!(refusal(&POLYNOMIAL, &[1], 3, 55, 8, 2815), Refusal::Key);
+    assert_eq!(refusal(&POLYNOMIAL, &[1], 3, 55, -7, -2816), Refusal::Y);
+}
+
+#[test]
 fn empty_slices_are_refused_and_not_read() {
     let session = Session::open(N).unwrap();
     let drawn = session.draw(LIMIT, &[], &[], &[], &mut [], &mut []);
@@ -100,6 +178,19 @@ fn empty_slices_are_refused_and_not_read() {
     assert_eq!(drawn.answer, Err(Refusal::Words));
     let drawn = drawn.session.draw(LIMIT, &CDT, &POLYNOMIAL, &[0; 32], &mut [0; 8], &mut []);
     assert_eq!(drawn.answer, Err(Refusal::List));
+
+    let empty = drawn_session().respond(&[], &[], &[], &[], &mut [], &mut [], &mut []);
+    assert_eq!(empty.answer, Err(Refusal::Lengths));
+    let respond = |session: Session, challenge: &[u32], words: &[u64]| {
+        session.respond(challenge, &POLYNOMIAL, words, &[0; 8], &mut [0; 8], &mut [0; 8], &mut [])
+    };
+    let empty = respond(empty.session, &[], &[]);
+    assert_eq!(empty.answer, Err(Refusal::Challenge));
+    let empty = respond(empty.session, &[1], &[]);
+    assert_eq!(empty.answer, Err(Refusal::Words));
+    let empty = respond(empty.session, &[1], &[0; 3]);
+    assert_eq!(empty.answer, Err(Refusal::List));
+    assert!(empty.session.is_drawn());
 }
 
 #[test]
@@ -144,6 +235,8 @@ fn the_exponential_refuses_above_its_limit() {
 #[test]
 fn refusals_carry_their_number() {
     assert_eq!(Refusal::Words.number(), 7);
+    assert_eq!([Refusal::Challenge, Refusal::NotDrawn, Refusal::Key, Refusal::Y].map(Refusal::number), [6, 9, 10, 11]);
+    assert_eq!(Refusal::Key.to_string(), "refusal 10: a value of the key is outside -7 to 7");
     assert_eq!(Refusal::Exponential.to_string(), "refusal 12: N is above 5534960");
 }
 
@@ -151,4 +244,5 @@ fn refusals_carry_their_number() {
 fn the_tables_are_those_of_document_01() {
     assert_eq!([POLYNOMIAL[0], POLYNOMIAL[1], POLYNOMIAL[19], POLYNOMIAL[20]], [1 << 62, 1 << 62, 37, 1]);
     assert_eq!([sample_count(4), word_count(128), list_length(128)], [8, 512, 5890]);
+    assert_eq!([challenge_limit(4), challenge_limit(1024), respond_list_length(4, 1)], [4, 64, 55]);
 }

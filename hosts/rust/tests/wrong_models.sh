@@ -1,6 +1,6 @@
 #!/bin/sh
-# Shows that the comparison of draws with the model is no empty one: the model is made wrong in one place at a time, in a scratch
-# copy of this package, and the comparison must fail. It takes about a minute.
+# Shows that the comparison of calls with the model is no empty one: the model is made wrong in one place at a time, in a scratch
+# copy of this package, and the comparison must fail. It takes some minutes.
 #
 # usage: hosts/rust/tests/wrong_models.sh
 set -eu
@@ -27,14 +27,14 @@ fail() {
 # Compares with the model as it now stands. A run of an older build would show nothing.
 compare() {
     status=0
-    cargo test --offline --test draws >"$scratch/log" 2>&1 || status=$?
+    cargo test --offline --test against_model >"$scratch/log" 2>&1 || status=$?
     grep -q 'Compiling bliss-box' "$scratch/log" || fail "the model was not compiled anew"
     return "$status"
 }
 
-# wrong NAME RIGHT WRONG: the text RIGHT, which the model has exactly once, becomes WRONG.
+# wrong NAME RIGHT WRONG: the text RIGHT, which the file $part of the model has exactly once, becomes WRONG.
 wrong() {
-    python3 - "$package/tests/model/mod.rs" "$scratch/tests/model/mod.rs" "$2" "$3" <<'END'
+    python3 - "$package/tests/model/$part" "$scratch/tests/model/$part" "$2" "$3" <<'END'
 import sys
 
 source, target, right, wrong = sys.argv[1:]
@@ -52,15 +52,17 @@ END
     else
         fail "$1: it failed, but not in a comparison"
     fi
+    cp "$package/tests/model/$part" "$scratch/tests/model/$part"
 }
 
 compare || fail "the right model is not the archive's"
+
+part=draw.rs
 
 # Base sample
 wrong 'a threshold counts only below d' 'threshold(cdt, i) <= d' 'threshold(cdt, i) < d'
 wrong 'high words alone are compared' 'threshold(cdt, i) <= d' 'threshold(cdt, i) / ONE <= d / ONE'
 wrong 'the low word is left out at equal high words' 'threshold(cdt, i) <= d' 'threshold(cdt, i) / ONE < d / ONE'
-wrong 'd from whole words' 'u128::from(word) % ONE' 'u128::from(word)'
 wrong 'nine thresholds' 'for i in 0..10 {' 'for i in 0..9 {'
 
 # Attempt
@@ -86,7 +88,7 @@ wrong 'accepted samples stand on spent' 'vec![0; 2 * n]' \
 wrong 'attempts counted up to the limit' 'attempts: attempts.len(),' 'attempts: call.limit,'
 wrong 'entries counted up to the limit' 'entries: entries.len()' 'entries: 46 * call.limit + 2'
 
-# Read list
+# Read list of a draw
 wrong 'the scan is left at the first threshold above d' 'list_attempt(&mut entries, t, samples.len());' \
     'list_attempt(&mut entries, t, samples.len());
      let end = entries.len() - 22;
@@ -98,23 +100,17 @@ wrong 'no exponential at size 0' 'list_attempt(&mut entries, t, samples.len());'
 wrong 'kind 5 counts after the attempt' 'list_attempt(&mut entries, t, samples.len());' \
     'list_attempt(&mut entries, t, samples.len() + usize::from(attempt.accepted()));'
 wrong 'kind 5 has the attempt' 'list_attempt(&mut entries, t, samples.len());' 'list_attempt(&mut entries, t, t);'
-wrong 'entry 20 is not listed' '(0..21).rev()' '(0..20).rev()'
-wrong 'the polynomial table is listed upwards' '(0..21).rev()' '0..21'
 wrong 'word places from 0 in each attempt' 'for place in 4 * t..4 * t + 4 {' 'for place in 4 * (t - t)..4 {'
 wrong 'the last entry is missing' 'entries.push(entry(6, samples.len()));' ''
-wrong 'the rest of the list is zeroed' 'let mut list = call.list.clone();' 'let mut list = vec![0; call.list.len()];'
 
-# Session
+# The session after a draw
 wrong 'spent keeps drawn' 'drawn: full }' 'drawn: full || call.session.drawn }'
 wrong 'a refused draw clears drawn' 'session: call.session,' \
     'session: Session { drawn: false, ..call.session },'
 wrong 'a refused draw gives degree 0 for a wrong one' 'session: call.session,' \
-    'session: if refusal == 1 { open(0).1 } else { call.session },'
-wrong 'a refused opening keeps the degree' 'Session { degree: 0, drawn: false }' 'Session { degree: n, drawn: false }'
-wrong 'degree 2 is served' '[4, 8,' '[2, 4, 8,'
-wrong 'degree 1024 is refused' '512, 1024]' '512]'
+    'session: if refusal == 1 { super::open(0).1 } else { call.session },'
 
-# Refusals
+# Refusals of a draw
 wrong 'a refused draw zeroes y' 'y: call.y.clone(),' 'y: vec![0; call.y.len()],'
 wrong 'refusals 3 and 4 in the other order' 'if !cdt_is_right(&call.cdt) {' \
     'if call.polynomial != POLYNOMIAL { return 4; }
@@ -133,6 +129,128 @@ wrong 'L = 2n is refused' 'limit < 2 * n' 'limit <= 2 * n'
 wrong 'L = 32n is refused' 'limit > 32 * n' 'limit >= 32 * n'
 wrong 'more words than 4L are refused' 'call.words.len() < 4 * limit' 'call.words.len() != 4 * limit'
 wrong 'a list one short is served' 'call.list.len() < 46 * limit + 2' 'call.list.len() < 46 * limit + 1'
+
+part=respond.rs
+
+# Challenge product
+wrong 'no minus sign where a position wraps' '(i + n - c, true)' '(i + n - c, false)'
+wrong 'a minus sign where no position wraps' '(i - c, false)' '(i - c, true)'
+wrong 's1 in both halves' 'half_product(s2, challenge)' 'half_product(s1, challenge)'
+wrong 'the last position is left out' 'for &c in challenge {
+            let (index, minus)' 'for &c in &challenge[..challenge.len() - usize::from(challenge.len() > 1)] {
+            let (index, minus)'
+
+# Respond
+wrong 'g turned round' 'words[0] % 2 == 1' 'words[0] % 2 == 0'
+wrong 'g by bit 1' 'words[0] % 2 == 1' 'words[0] / 2 % 2 == 1'
+wrong 'A must be below its limit' 'self.product_squares <= PRODUCT_LIMIT' 'self.product_squares < PRODUCT_LIMIT'
+wrong 'A may be one above its limit' 'self.product_squares <= PRODUCT_LIMIT' 'self.product_squares <= PRODUCT_LIMIT + 1'
+wrong 'A is not tested' 'self.product_squares <= PRODUCT_LIMIT' 'true'
+wrong 'Z must be below its limit' 'self.response_squares <= RESPONSE_LIMIT' 'self.response_squares < RESPONSE_LIMIT'
+wrong 'Z may be one above its limit' 'self.response_squares <= RESPONSE_LIMIT' 'self.response_squares <= RESPONSE_LIMIT + 1'
+wrong 'Z is not tested' 'self.response_squares <= RESPONSE_LIMIT' 'true'
+wrong 'Z of y' 'sum_of_squares(&z)' 'y.iter().map(|&value| u128::from(value.unsigned_abs()).pow(2)).sum()'
+wrong 'N1 = A' 'PRODUCT_LIMIT.saturating_sub(product_squares)' 'product_squares.min(PRODUCT_LIMIT)'
+wrong 'N1 = 0' 'PRODUCT_LIMIT.saturating_sub(product_squares)' 'PRODUCT_LIMIT.min(0)'
+wrong '|I| is not doubled' '2 * inner.unsigned_abs()' 'inner.unsigned_abs()'
+wrong 'I of y' 'inner_product(&z, product)' \
+    'y.iter().zip(product).map(|(&value, sc)| i128::from(value) * sc).sum::<i128>()'
+wrong 'I below 0 counts as 0' '2 * inner.unsigned_abs()' '2 * inner.max(0).unsigned_abs()'
+wrong 'word 1 passes at e(N1) too' 'self.tested1 < self.e1' 'self.tested1 <= self.e1'
+wrong 'word 1 fails at e(N1) - 1' 'self.tested1 < self.e1' 'self.tested1 + 1 < self.e1'
+wrong 'word 1 is not tested' 'self.tested1 < self.e1' 'true'
+wrong 'words 1 and 2 change places' '(of_62(words[1]), of_62(words[2]))' '(of_62(words[2]), of_62(words[1]))'
+wrong 'word 2 without its lowest bits' 'of_62(words[2])' 'u128::from(words[2] / 4)'
+wrong 'the cosh test passes at equal sides' '(ONE + self.f) < self.e2' '(ONE + self.f) <= self.e2'
+wrong 'the cosh test with 2^62' 'self.e2 * (1 << 63)' 'self.e2 * (1 << 62)'
+wrong 'the cosh test without f' '(ONE + self.f)' 'ONE'
+wrong 'the cosh test with e for f' '(ONE + self.f)' '(ONE + self.e2)'
+wrong 'the cosh test on high words alone' 'self.tested2 * (ONE + self.f) < self.e2 * (1 << 63)' \
+    '(self.tested2 * (ONE + self.f)) >> 64 < (self.e2 * (1 << 63)) >> 64'
+wrong 'the cosh test passes at equal high words' 'self.tested2 * (ONE + self.f) < self.e2 * (1 << 63)' \
+    '(self.tested2 * (ONE + self.f)) >> 64 <= (self.e2 * (1 << 63)) >> 64'
+wrong 'no cosh test' 'self.tested2 * (ONE + self.f) < self.e2 * (1 << 63)' 'true'
+wrong 'every response is rejected' 'self.tests() == [true; 4]' 'false'
+wrong 'three tests of four are enough' 'self.tests() == [true; 4]' 'self.tests().iter().filter(|&&test| test).count() >= 3'
+wrong 'z is kept on bit 0' 'z: if bit {' 'z: if bit || !bit {'
+wrong 'z before the call is kept on bit 0' 'else { vec![0; 2 * n] }' 'else { call.z.clone() }'
+wrong 'y is kept' 'y: vec![0; 2 * n],' 'y: call.y.clone(),'
+wrong 'y is kept on bit 0' 'y: vec![0; 2 * n],' 'y: if bit { vec![0; 2 * n] } else { call.y.clone() },'
+wrong 'drawn is kept' 'Session { degree: n, drawn: false }' 'Session { degree: n, drawn: true }'
+wrong 'drawn is kept on bit 0' 'Session { degree: n, drawn: false }' 'Session { degree: n, drawn: !bit }'
+wrong 'a refused response zeroes y' 'y: call.y.clone(),' 'y: vec![0; call.y.len()],'
+wrong 'a refused response zeroes z' 'z: call.z.clone(),' 'z: vec![0; call.z.len()],'
+wrong 'a refused response clears drawn' 'session: call.session,' 'session: Session { drawn: false, ..call.session },'
+
+# Read list of a response
+wrong 'words before the key' 'entries.push(entry(2, place));' 'entries.insert(1 + place, entry(2, place));'
+wrong 'positions before outputs' 'for i in 0..n {
+            for &c in challenge {
+                let (index, _)' 'for &c in challenge {
+            for i in 0..n {
+                let (index, _)'
+wrong 'outputs before halves' 'for half in 0..2 {
+        for i in 0..n {' 'for i in 0..n {
+        for half in 0..2 {'
+wrong 'key places from 0 in each half' 'entry(8, half * n + index)' 'entry(8, (half - half) * n + index)'
+wrong 'kind 8 has the output' 'entry(8, half * n + index)' 'entry(8, half * n + (index + c as usize) % n)'
+wrong 'the polynomial table is listed once' '    list_polynomial(&mut entries);
+    list_polynomial(&mut entries);' '    list_polynomial(&mut entries);'
+wrong 'kind 9 has 1 always' 'entry(9, usize::from(bit))' 'entry(9, usize::from(bit || !bit))'
+
+# Refusals of a response
+wrong 'a longer key is served' 'call.key.len() != 2 * n' 'call.key.len() < 2 * n'
+wrong 'z of any length' ' || call.z.len() != 2 * n' ''
+wrong 'an empty challenge is served' 'challenge.is_empty() || ' ''
+wrong 'a challenge of 65 positions is served' 'challenge.len() > 64' 'challenge.len() > 65'
+wrong 'a challenge of 64 positions is refused' 'challenge.len() > 64' 'challenge.len() > 63'
+wrong 'a challenge of n positions is refused' 'challenge.len() > n' 'challenge.len() >= n'
+wrong 'position n is served' 'position as usize >= n' 'position as usize > n'
+wrong 'position n - 1 is refused' 'position as usize >= n' 'position as usize >= n - 1'
+wrong 'equal positions are served' 'position <= challenge[place - 1]' 'position < challenge[place - 1]'
+wrong 'more than three words are refused' 'call.words.len() < 3' 'call.words.len() != 3'
+wrong 'four words are asked for' 'call.words.len() < 3' 'call.words.len() < 4'
+wrong 'a list of one entry more is asked for' 'call.challenge.len() + 47' 'call.challenge.len() + 48'
+wrong 'a response with nothing drawn is served' '!call.session.drawn' 'false'
+wrong 'key value 8 is served' '(-7..=7)' '(-7..=8)'
+wrong 'key value -8 is served' '(-7..=7)' '(-8..=7)'
+wrong 'key value 7 is refused' '(-7..=7)' '(-7..7)'
+wrong 'key value -7 is refused' '(-7..=7)' '(-6..=7)'
+wrong 'y value 2816 is served' '(-2815..=2815)' '(-2815..=2816)'
+wrong 'y value -2816 is served' '(-2815..=2815)' '(-2816..=2815)'
+wrong 'y value 2815 is refused' '(-2815..=2815)' '(-2815..2815)'
+wrong 'y value -2815 is refused' '(-2815..=2815)' '(-2814..=2815)'
+wrong 'the first key value is not looked at' 'call.key.iter().any' 'call.key.iter().skip(1).any'
+wrong 'the last value of y is not looked at' 'call.y.iter().any' 'call.y.iter().rev().skip(1).any'
+wrong 'refusals 6 and 4 in the other order' 'if call.polynomial != POLYNOMIAL {' \
+    'if !challenge_is_right(&call.challenge, n) { return 6; }
+     if call.polynomial != POLYNOMIAL {'
+wrong 'refusals 7 and 6 in the other order' 'if !challenge_is_right(&call.challenge, n) {' \
+    'if call.words.len() < 2 + 1 { return 7; }
+     if !challenge_is_right(&call.challenge, n) {'
+wrong 'refusals 8 and 7 in the other order' 'if call.words.len() < 3 {' \
+    'if call.list.len() < 2 * n * call.challenge.len() + 40 + 7 { return 8; }
+     if call.words.len() < 3 {'
+wrong 'refusals 9 and 8 in the other order' 'if call.list.len() <' \
+    'if call.session == (Session { degree: n, drawn: false }) { return 9; }
+     if call.list.len() <'
+wrong 'refusals 10 and 9 in the other order' 'if !call.session.drawn {' \
+    'if call.key.iter().any(|value| value.unsigned_abs() > 7) { return 10; }
+     if !call.session.drawn {'
+wrong 'refusals 11 and 10 in the other order' 'if call.key.iter()' \
+    'if call.y.iter().any(|value| value.unsigned_abs() > 2815) { return 11; }
+     if call.key.iter()'
+
+part=mod.rs
+
+# Words, lists and sessions
+wrong 'whole words' 'u128::from(word) % ONE' 'u128::from(word)'
+wrong 'entry 20 is not listed' '(0..21).rev()' '(0..20).rev()'
+wrong 'the polynomial table is listed upwards' '(0..21).rev()' '0..21'
+wrong 'the rest of the list is zeroed' 'let mut list = list.to_vec();' 'let mut list = vec![0; list.len()];'
+wrong 'a refused opening keeps the degree' 'Session { degree: 0, drawn: false }' 'Session { degree: n, drawn: false }'
+wrong 'degree 2 is served' '[4, 8,' '[2, 4, 8,'
+wrong 'degree 1024 is refused' '512, 1024]' '512]'
 
 # Filled part and exponential
 wrong 'a count over the length gets the whole list' '&list[..0]' 'list'

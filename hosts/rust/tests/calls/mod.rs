@@ -1,9 +1,11 @@
-//! Draws to compare: served ones, at the edges of every rule, and what makes them refused.
+//! Calls to compare: served ones, at the edges of every rule, and what makes them refused.
 
-use crate::model::{self, Attempt, Call, Session};
+pub mod draw;
+pub mod respond;
+
 use crate::random::Random;
 
-/// The bound of the CDT's words: 2^62.
+/// The bound of 62 bits of a word: 2^62.
 const BOUND: u64 = 1 << 62;
 
 pub const DEGREES: [usize; 9] = [4, 8, 16, 32, 64, 128, 256, 512, 1024];
@@ -14,40 +16,18 @@ const NEAR_DEGREES: [usize; 10] = [0, 1, 2, 3, 5, 6, 12, 96, 1023, 2048];
 /// Degrees that only a forged session has. Some of them wrap to a degree that is served, or to 0, when cut or doubled.
 const FORGED_DEGREES: [usize; 9] = [0, 12, 1 << 16, 1 << 32, (1 << 32) + 4, 1 << 62, 1 << 63, (1 << 63) + 4, usize::MAX];
 
-/// The refusals of a draw, in an order in which they can be brought about: a length that hangs on the limit after the limit,
-/// and the content of a table before its length.
-const REFUSALS: [u32; 7] = [5, 7, 8, 4, 3, 2, 1];
-
 /// A degree: each is half as likely as the one below it, so that most calls are short.
 pub fn degree(random: &mut Random) -> usize {
     DEGREES[random.word().trailing_zeros().min(8) as usize]
 }
 
-/// A call with everything right, apart from a degree that may be a refused one.
-pub fn right(random: &mut Random, degree: usize) -> Call {
-    let limit = limit(random, degree);
-    let cdt = cdt(random);
-    let words = words(random, limit, &cdt);
-    let mut call = Call {
-        session: Session { degree, drawn: random.one_in(2) },
-        limit,
-        cdt,
-        polynomial: model::POLYNOMIAL.to_vec(),
-        words,
-        y: (0..2 * degree).map(|_| random.word() as i32).collect(),
-        list: (0..46 * limit + 2).map(|_| random.word() as u32).collect(),
-    };
-    if random.one_in(3) {
-        meet_limit(random, &mut call);
-    }
-    if random.one_in(2) {
-        lend_more(random, &mut call);
-    }
-    call
-}
-
-/// A call that may be right, or refused for one or more reasons, and these reasons.
-pub fn any(random: &mut Random) -> (Call, Vec<u32>) {
+/// A call that may be right, or refused for one or more of these reasons, and the reasons. They are brought about in their order.
+fn any<C>(
+    random: &mut Random,
+    right: fn(&mut Random, usize) -> C,
+    refusals: &[u32],
+    spoil: fn(&mut Random, &mut C, u32) -> bool,
+) -> (C, Vec<u32>) {
     let near = random.one_in(40);
     let degree = if near { random.pick(&NEAR_DEGREES) } else { degree(random) };
     let mut call = right(random, degree);
@@ -56,120 +36,17 @@ pub fn any(random: &mut Random) -> (Call, Vec<u32>) {
         reasons.push(1);
     }
     let wanted = random.pick(&[0, 0, 0, 1, 1, 2, 3, 7]);
-    for refusal in REFUSALS {
-        if random.below(REFUSALS.len()) < wanted && spoil(random, &mut call, refusal) {
+    for &refusal in refusals {
+        if random.below(refusals.len()) < wanted && spoil(random, &mut call, refusal) {
             reasons.push(refusal);
         }
     }
     (call, reasons)
 }
 
-/// Limits at both ends, and around the attempts that a draw is likely to need.
-fn limit(random: &mut Random, degree: usize) -> usize {
-    match random.below(8) {
-        0 => 2 * degree,
-        1 => 2 * degree + degree.min(1),
-        2 => 32 * degree - degree.min(1),
-        3 => 32 * degree,
-        4 => 2 * degree + random.below(30 * degree + 1),
-        _ => 2 * degree + random.below(2 * degree + 1),
-    }
-}
-
-/// Puts the limit at the attempt that fills y, or one below: the last attempt then decides.
-fn meet_limit(random: &mut Random, call: &mut Call) {
-    let drawn = model::draw(call);
-    if drawn.answer.attempts == 0 || !drawn.session.drawn {
-        return;
-    }
-    let limit = drawn.answer.attempts - usize::from(random.one_in(3));
-    if limit >= 2 * call.session.degree {
-        call.limit = limit;
-        call.words.truncate(4 * limit);
-        call.list.truncate(46 * limit + 2);
-    }
-}
-
-/// More words and a longer list than the limit asks for.
-fn lend_more(random: &mut Random, call: &mut Call) {
-    for _ in 0..random.below(9) {
-        call.words.push(random.word());
-    }
-    for _ in 0..random.below(99) {
-        call.list.push(random.word() as u32);
-    }
-}
-
-/// The table of document 01's known points: the i-th threshold, from 1, is high i × 2^40, low 0.
-fn known_points_cdt() -> Vec<u64> {
-    (1..=10).flat_map(|i| [i << 40, 0]).collect()
-}
-
-/// A right CDT table.
-fn cdt(random: &mut Random) -> Vec<u64> {
-    let high = random.word() % BOUND;
-    let mut thresholds = match random.below(8) {
-        0..=2 => return bliss_box::CDT.to_vec(),
-        3 => return known_points_cdt(),
-        // Equal thresholds.
-        4 => [[random.pick(&[0, high, BOUND - 1]), random.pick(&[0, high, BOUND - 1])]; 10].to_vec(),
-        // Equal high words and differing low words.
-        5 => (0..10).map(|_| [high, random.word() % BOUND]).collect(),
-        // Thresholds at 0 and at the greatest value, and some between.
-        6 => (0..10).map(|_| random.pick(&[[0, 0], [high, high], [BOUND - 1, BOUND - 1]])).collect(),
-        _ => (0..10).map(|_| [random.word() % BOUND, random.word() % BOUND]).collect::<Vec<_>>(),
-    };
-    thresholds.sort();
-    thresholds.concat()
-}
-
-/// The words of a draw.
-fn words(random: &mut Random, limit: usize, cdt: &[u64]) -> Vec<u64> {
-    let same = random.pick(&[0, u64::MAX, 3 << 62, 256]);
-    match random.below(10) {
-        0 => vec![same; 4 * limit],
-        1 => (0..limit).flat_map(|_| [0, 0, 256, random.word()]).collect(),
-        2..=5 => (0..4 * limit).map(|_| random.word()).collect(),
-        _ => {
-            let accepting = random.below(5);
-            (0..limit).flat_map(|_| edge_words(random, cdt, accepting)).collect()
-        }
-    }
-}
-
-/// An attempt's words at the edges of its rules. The greater `accepting`, 0 to 4, the more attempts are accepted.
-fn edge_words(random: &mut Random, cdt: &[u64], accepting: usize) -> [u64; 4] {
-    let d = edge_d(random, cdt);
-    let any = random.word();
-    let sign_and_low = random.pick(&[0, 1, 255, 256, 257, 511, any % 512]);
-    let over = random.pick(&[0, 0, 1, any >> 9]);
-    let high = top_bits(random, (d >> 62) as u64);
-    let low = top_bits(random, (d % u128::from(BOUND)) as u64);
-    let mut words = [high, low, sign_and_low + (over << 9), 0];
-    let e = Attempt::of(words, cdt).e as u64;
-    words[3] = if random.below(5) < accepting {
-        random.pick(&[0, e - 1, any % e])
-    } else {
-        random.pick(&[e - 1, e, e, e + 1, BOUND - 1, any])
-    };
-    words[3] = top_bits(random, words[3]);
-    words
-}
-
-/// A draw at, just below or just above a threshold, at an end, or anywhere.
-fn edge_d(random: &mut Random, cdt: &[u64]) -> u128 {
-    let greatest = (1 << 124) - 1;
-    let threshold = model::threshold(cdt, random.below(10));
-    match random.below(8) {
-        0 => 0,
-        1 => greatest,
-        2 => (u128::from(random.word()) << 64 | u128::from(random.word())) & greatest,
-        3 => threshold.saturating_sub(1),
-        4 => (threshold + 1).min(greatest),
-        // The threshold's high word, with any low word.
-        5 => threshold >> 62 << 62 | u128::from(random.word() % BOUND),
-        _ => threshold,
-    }
+/// The refusal that goes before all others of these, or 0.
+pub fn first(reasons: &[u32]) -> u32 {
+    reasons.iter().copied().min().unwrap_or(0)
 }
 
 /// The low 62 bits of a word below any top two bits.
@@ -177,54 +54,9 @@ fn top_bits(random: &mut Random, word: u64) -> u64 {
     word % BOUND + (random.pick(&[0, 0, 1, 2, 3]) << 62)
 }
 
-/// Changes the call so that this refusal applies to it. False where the call has no room for it.
-pub fn spoil(random: &mut Random, call: &mut Call, refusal: u32) -> bool {
-    match refusal {
-        1 => call.session.degree = random.pick(&FORGED_DEGREES),
-        2 => spoil_lengths(random, call),
-        3 => spoil_cdt(random, &mut call.cdt),
-        4 => spoil_polynomial(random, &mut call.polynomial),
-        5 => return spoil_limit(random, call),
-        7 => return shorten(random, &mut call.words, call.limit.saturating_mul(4)),
-        8 => return shorten(random, &mut call.list, call.limit.saturating_mul(46).saturating_add(2)),
-        _ => unreachable!("a draw has no refusal {refusal}"),
-    }
-    true
-}
-
-fn spoil_lengths(random: &mut Random, call: &mut Call) {
-    let length =
-        |random: &mut Random, right: usize| random.pick(&[right + 1, right.saturating_sub(1), 0, right * 2, right / 2]);
-    let which = 1 + random.below(7);
-    if which & 1 != 0 {
-        call.cdt.resize(length(random, 20), BOUND - 1);
-    }
-    if which & 2 != 0 {
-        call.polynomial.resize(length(random, 21), 0);
-    }
-    if which & 4 != 0 {
-        let right = call.y.len().max(1);
-        call.y.resize(length(random, right), -1);
-    }
-}
-
-fn spoil_cdt(random: &mut Random, cdt: &mut [u64]) {
-    let i = 2 * (1 + random.below(9));
-    match random.below(4) {
-        0 => cdt[random.below(20)] = random.pick(&[BOUND, BOUND + 1, 1 << 63, u64::MAX]),
-        // The high word falls, and the low word rises.
-        1 => {
-            cdt[i - 2] = cdt[i - 2].max(1);
-            cdt[i] = cdt[i - 2] - 1;
-            cdt[i + 1] = BOUND - 1;
-        }
-        // The high words are equal, and the low word falls.
-        _ => {
-            cdt[i - 1] = cdt[i - 1].max(1);
-            cdt[i] = cdt[i - 2];
-            cdt[i + 1] = cdt[i - 1] - 1;
-        }
-    }
+/// A length that is near the right one, and another.
+fn wrong_length(random: &mut Random, right: usize) -> usize {
+    random.pick(&[right + 1, right.saturating_sub(1), 0, right * 2, right / 2])
 }
 
 fn spoil_polynomial(random: &mut Random, polynomial: &mut [u64]) {
@@ -235,18 +67,6 @@ fn spoil_polynomial(random: &mut Random, polynomial: &mut [u64]) {
         2 => *entry ^ 1 << random.below(64),
         _ => u64::MAX - *entry,
     };
-}
-
-/// A limit outside its bounds. One that is just outside is lent all that it asks for.
-fn spoil_limit(random: &mut Random, call: &mut Call) -> bool {
-    let degree = call.session.degree;
-    let least = (2 * degree).saturating_sub(1);
-    call.limit = random.pick(&[0, least, 32 * degree + 1, 32 * degree + 1, 1 << 62, 1 << 63, usize::MAX]);
-    if call.limit <= 32 * degree + 1 {
-        call.words.resize(4 * call.limit, 0);
-        call.list.resize(46 * call.limit + 2, 0);
-    }
-    call.limit < 2 * degree || call.limit > 32 * degree
 }
 
 /// Cuts a buffer to fewer values than are asked for.

@@ -1,0 +1,288 @@
+//! Respond calls.
+
+use super::{shorten, spoil_polynomial, top_bits, wrong_length, BOUND, FORGED_DEGREES};
+use crate::model::respond::{product, Call, Response, PRODUCT_LIMIT, RESPONSE_LIMIT};
+use crate::model::{Session, POLYNOMIAL};
+use crate::random::Random;
+
+/// The refusals of a respond call, in an order in which they can be brought about: the list's length after the challenge, and
+/// the content of a buffer before its length.
+const REFUSALS: [u32; 9] = [6, 7, 8, 9, 10, 11, 4, 2, 1];
+
+/// The greatest value of a key.
+pub const GREATEST_KEY: i32 = 7;
+
+/// The greatest value of y.
+pub const GREATEST_Y: i32 = 2815;
+
+/// A call with everything right, apart from a degree that may be a refused one.
+pub fn right(random: &mut Random, degree: usize) -> Call {
+    let challenge = challenge(random, degree);
+    let key = key(random, degree, &challenge);
+    let minus = random.one_in(2);
+    let y = y(random, &product(&key, &challenge), minus);
+    assembled(random, degree, challenge, key, y, minus)
+}
+
+/// A right call to a given challenge, over a given y.
+pub fn over(random: &mut Random, degree: usize, challenge: &[u32], y: &[i32]) -> Call {
+    let key = key(random, degree, challenge);
+    let minus = random.one_in(2);
+    assembled(random, degree, challenge.to_vec(), key, y.to_vec(), minus)
+}
+
+/// A call that may be right, or refused for one or more reasons, and these reasons.
+pub fn any(random: &mut Random) -> (Call, Vec<u32>) {
+    super::any(random, right, &REFUSALS, spoil)
+}
+
+fn assembled(random: &mut Random, degree: usize, challenge: Vec<u32>, key: Vec<i32>, y: Vec<i32>, minus: bool) -> Call {
+    let mut words = words(random, &y, &product(&key, &challenge), minus).to_vec();
+    let mut list_length = entries(degree, &challenge);
+    if random.one_in(2) {
+        words.extend((0..random.below(9)).map(|_| random.word()));
+        list_length += random.below(99);
+    }
+    Call {
+        session: Session { degree, drawn: true },
+        challenge,
+        polynomial: POLYNOMIAL.to_vec(),
+        words,
+        key,
+        y,
+        z: (0..2 * degree).map(|_| random.word() as i32).collect(),
+        list: (0..list_length).map(|_| random.word() as u32).collect(),
+    }
+}
+
+/// The entries that a list must have.
+fn entries(degree: usize, challenge: &[u32]) -> usize {
+    degree.saturating_mul(2 * challenge.len()).saturating_add(47)
+}
+
+/// A right challenge: of one position, of as many as may be, or of any length between.
+pub fn challenge(random: &mut Random, degree: usize) -> Vec<u32> {
+    let most = degree.min(64);
+    let length = match random.below(6) {
+        0 => 1,
+        1 => most,
+        2 => most / 2,
+        _ => 1 + random.below(most.max(1)),
+    };
+    let mut rest: Vec<u32> = (0..degree as u32).collect();
+    let ends = random.below(3);
+    let mut challenge: Vec<u32> = (0..length.min(degree))
+        .map(|turn| match (ends, turn) {
+            // The first and the last position of all.
+            (0, 0) => rest.remove(0),
+            (1, 0) => rest.remove(rest.len() - 1),
+            _ => rest.remove(random.below(rest.len())),
+        })
+        .collect();
+    challenge.sort();
+    challenge
+}
+
+/// A number from -`bound` to `bound`.
+fn within(random: &mut Random, bound: i32) -> i32 {
+    random.below(2 * bound as usize + 1) as i32 - bound
+}
+
+fn either_sign(random: &mut Random, value: i32) -> i32 {
+    random.pick(&[value, -value])
+}
+
+fn key(random: &mut Random, degree: usize, challenge: &[u32]) -> Vec<i32> {
+    let length = 2 * degree;
+    let limit = PRODUCT_LIMIT as usize;
+    match random.below(10) {
+        0 => vec![0; length],
+        1 => vec![either_sign(random, GREATEST_KEY); length],
+        2 => (0..length).map(|_| either_sign(random, GREATEST_KEY)).collect(),
+        3 => (0..length).map(|_| within(random, GREATEST_KEY)).collect(),
+        4..=6 => {
+            let wanted = 1 + random.below(limit);
+            key_near(random, length, challenge.len(), wanted)
+        }
+        _ => {
+            let mut key = key_near(random, length, challenge.len(), limit);
+            // An even number of positions makes an even A.
+            let target = random.pick(&[if challenge.len() % 2 == 1 { 46_225 } else { 46_224 }, 46_226]);
+            tune(random, &mut key, challenge, target);
+            key
+        }
+    }
+}
+
+/// A key whose A is likely to be near a wanted one: values up to a bound, with as many zeros as that asks for.
+fn key_near(random: &mut Random, length: usize, positions: usize, wanted: usize) -> Vec<i32> {
+    let bound = 1 + random.below(GREATEST_KEY as usize);
+    // Values up to the bound have bound (bound + 1) / 3 as their mean square, and each counts once for each position.
+    let all = (length * positions * bound * (bound + 1) / 3).max(1);
+    (0..length).map(|_| if random.below(all) < wanted { within(random, bound as i32) } else { 0 }).collect()
+}
+
+/// Changes values of a key, never away from the target, until A is the target or many changes were tried.
+fn tune(random: &mut Random, key: &mut [i32], challenge: &[u32], target: i128) {
+    let n = key.len() / 2;
+    let greatest = i128::from(GREATEST_KEY) * challenge.len() as i128;
+    if (key.len() as i128) * greatest * greatest < target {
+        return;
+    }
+    let mut product = product(key, challenge);
+    let mut away = product.iter().map(|value| value * value).sum::<i128>() - target;
+    for _ in 0..4000 {
+        if away == 0 {
+            return;
+        }
+        let place = random.below(key.len());
+        let value = within(random, GREATEST_KEY);
+        let change = i128::from(value - key[place]);
+        let (half, index) = (place / n * n, place % n);
+        // Where the value goes to, and by which sign.
+        let goals = challenge.iter().map(|&c| {
+            let i = index + c as usize;
+            if i < n {
+                (half + i, change)
+            } else {
+                (half + i - n, -change)
+            }
+        });
+        let step: i128 = goals.clone().map(|(i, change)| change * (2 * product[i] + change)).sum();
+        if (away + step).abs() <= away.abs() {
+            away += step;
+            key[place] = value;
+            goals.for_each(|(i, change)| product[i] += change);
+        }
+    }
+}
+
+/// A right y: noise, the greatest values, a multiple of the product for a large I, or a y whose Z is at its limit.
+fn y(random: &mut Random, product: &[i128], minus: bool) -> Vec<i32> {
+    let length = product.len();
+    match random.below(10) {
+        0 => vec![0; length],
+        // The deviation of a draw's noise.
+        1 | 2 => (0..length).map(|_| within(random, 372)).collect(),
+        3 => (0..length).map(|_| within(random, GREATEST_Y)).collect(),
+        4 => (0..length).map(|_| either_sign(random, GREATEST_Y)).collect(),
+        5 | 6 => {
+            let times = within(random, 62);
+            product.iter().map(|&value| (value as i32 * times).clamp(-GREATEST_Y, GREATEST_Y)).collect()
+        }
+        _ => {
+            let target = random.pick(&[RESPONSE_LIMIT, RESPONSE_LIMIT + 1]);
+            y_of_squares(random, product, minus, target as i64)
+        }
+    }
+}
+
+/// A y whose Z is the target, where the degree has one. Each value of z takes about an equal part of what is left, and the last
+/// ones as much as they can.
+fn y_of_squares(random: &mut Random, product: &[i128], minus: bool, target: i64) -> Vec<i32> {
+    let mut left = target;
+    let mut y = Vec::new();
+    for (place, &value) in product.iter().enumerate() {
+        let places = (product.len() - place) as i64;
+        let shift = if minus { -value as i32 } else { value as i32 };
+        let part = if places > 12 { left * (6 + random.below(5) as i64) / (8 * places) } else { left };
+        let size = ((part as f64).sqrt() as i32).min(GREATEST_Y - shift.abs());
+        left -= i64::from(size) * i64::from(size);
+        y.push(either_sign(random, size) - shift);
+    }
+    y
+}
+
+/// The three words, at the edges of what decides the response.
+fn words(random: &mut Random, y: &[i32], product: &[i128], minus: bool) -> [u64; 3] {
+    let any = random.word();
+    let first = random.pick(&[0, 0, any << 1, u64::MAX - 1]) + u64::from(minus);
+    let response = Response::of(y, product, [first, 0, 0]);
+    let one = u128::from(BOUND);
+    // The first number that does not pass: 2^62 where all do.
+    let cosh_edge = (response.e2 << 63).div_ceil(one + response.f);
+    [first, edge_word(random, response.e1 as u64), edge_word(random, cosh_edge as u64)]
+}
+
+/// A word that is likely to be below an edge, near it or far.
+fn edge_word(random: &mut Random, edge: u64) -> u64 {
+    let any = random.word();
+    let word = if random.one_in(4) {
+        random.pick(&[edge, edge, edge + 1, BOUND - 1, any])
+    } else {
+        random.pick(&[0, edge.saturating_sub(1), any % edge.max(1)])
+    };
+    top_bits(random, word.min(BOUND - 1))
+}
+
+/// Changes the call so that this refusal applies to it. False where the call has no room for it.
+pub fn spoil(random: &mut Random, call: &mut Call, refusal: u32) -> bool {
+    match refusal {
+        1 => call.session.degree = random.pick(&FORGED_DEGREES),
+        2 => spoil_lengths(random, call),
+        4 => spoil_polynomial(random, &mut call.polynomial),
+        6 => spoil_challenge(random, call),
+        7 => return shorten(random, &mut call.words, 3),
+        8 => return shorten(random, &mut call.list, entries(call.session.degree, &call.challenge)),
+        9 => call.session.drawn = false,
+        10 => return spoil_values(random, &mut call.key, GREATEST_KEY),
+        11 => return spoil_values(random, &mut call.y, GREATEST_Y),
+        _ => unreachable!("a respond call has no refusal {refusal}"),
+    }
+    true
+}
+
+fn spoil_lengths(random: &mut Random, call: &mut Call) {
+    let which = 1 + random.below(15);
+    if which & 1 != 0 {
+        call.polynomial.resize(wrong_length(random, 21), 0);
+    }
+    for (bit, values) in [(2, &mut call.key), (4, &mut call.y), (8, &mut call.z)] {
+        if which & bit != 0 {
+            let right = values.len().max(1);
+            values.resize(wrong_length(random, right), 1);
+        }
+    }
+}
+
+/// A challenge that is refused, and a list that is long enough for it.
+fn spoil_challenge(random: &mut Random, call: &mut Call) {
+    let degree = call.session.degree as u32;
+    let challenge = &mut call.challenge;
+    match (random.below(6), challenge.last().copied()) {
+        (1, Some(_)) => *challenge.last_mut().unwrap() = random.pick(&[degree, degree, degree + 1, 1 << 16, 1 << 31, u32::MAX]),
+        // Two positions are equal.
+        (2, Some(last)) => {
+            let place = random.below(challenge.len());
+            let twice = challenge[place];
+            challenge.insert(place, twice);
+            if challenge.len() > 64 || challenge.len() > degree as usize {
+                challenge.remove(if twice == last { 0 } else { challenge.len() - 1 });
+            }
+        }
+        // The last one falls.
+        (3, Some(_)) if challenge.len() > 1 => {
+            let end = challenge.len() - 1;
+            challenge.swap(end - 1, end);
+        }
+        // One too many, all of them ascending.
+        (4 | 5, _) => *challenge = (0..=degree.min(64)).collect(),
+        _ => challenge.clear(),
+    }
+    let least = entries(call.session.degree, &call.challenge);
+    call.list.resize(least.max(call.list.len()), 0);
+}
+
+/// Puts values outside a bound at the first place, the last, any, or several.
+fn spoil_values(random: &mut Random, values: &mut [i32], bound: i32) -> bool {
+    if values.is_empty() {
+        return false;
+    }
+    let last = values.len() - 1;
+    let any = [random.below(last + 1), random.below(last + 1)];
+    let places = random.pick(&[[0, 0], [last, last], [0, last], any]);
+    for place in places {
+        values[place] = random.pick(&[bound + 1, -bound - 1, 1 << 12, 1 << 16, i32::MAX, i32::MIN, i32::MIN + bound]);
+    }
+    true
+}
