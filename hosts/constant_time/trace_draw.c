@@ -2,6 +2,7 @@
  * secrets: d, b, the sign, u, and whether a rejected attempt is rejected by u or by a zero with sign 1. The accept bits, which are
  * public, are the same for every seed. No jump or address of the preparation hangs on the seed. */
 #include "bliss_box.h"
+#include "secrets.h"
 
 #include <string.h>
 
@@ -13,19 +14,6 @@ static uint64_t words[BLISS_DRAW_WORDS(LIMIT)];
 static int32_t y[BLISS_SAMPLES(DEGREE)];
 static uint32_t list[BLISS_DRAW_ENTRIES(LIMIT)];
 static volatile uint64_t result;
-static uint64_t secret;
-
-static uint64_t next(uint64_t *state)
-{
-    *state = *state * UINT64_C(6364136223846793005) + UINT64_C(1442695040888963407);
-    return *state ^ *state >> 29;
-}
-
-/* The whole part of a word's fraction of a bound: below the bound. */
-static uint64_t below(uint64_t word, uint64_t bound)
-{
-    return (uint64_t)((unsigned __int128)word * bound >> 64);
-}
 
 static unsigned __int128 two_words(uint64_t high, uint64_t low)
 {
@@ -44,21 +32,21 @@ static uint64_t base_sample(uint64_t high, uint64_t low)
 /* The words of an attempt with this accept bit. */
 static void fill_attempt(uint64_t *w, uint64_t bit)
 {
-    uint64_t minus_zero = (next(&secret) >> 20 & 1) & ~bit & 1;
-    uint64_t high = (next(&secret) >> 2) & (minus_zero - 1);
-    uint64_t low = next(&secret) >> 2;
+    uint64_t minus_zero = secret_bit() & ~bit & 1;
+    uint64_t high = (secret_word() >> 2) & (minus_zero - 1);
+    uint64_t low = secret_word() >> 2;
     /* A rejected attempt has b of 1 or more, so that e(N) is below 2^62; a minus zero has 0. */
-    uint64_t b = (1 - bit + below(next(&secret), 255 + bit)) & (minus_zero - 1);
+    uint64_t b = (1 - bit + secret_below(255 + bit)) & (minus_zero - 1);
     uint64_t x = base_sample(high, low);
-    uint64_t sign = ((next(&secret) >> 30 & 1) & (256 * x + b != 0)) | minus_zero;
+    uint64_t sign = (secret_bit() & (256 * x + b != 0)) | minus_zero;
     uint64_t e = bliss_exponential(b * (b + 512 * x));
     uint64_t least = e & (bit - 1) & (minus_zero - 1);
     uint64_t bound = bit * e + (1 - bit) * ((UINT64_C(1) << 62) - least);
 
-    w[0] = high | next(&secret) << 62;
-    w[1] = low | next(&secret) << 62;
-    w[2] = b | sign << 8 | next(&secret) << 9;
-    w[3] = (least + below(next(&secret), bound)) | next(&secret) << 62;
+    w[0] = high | secret_word() << 62;
+    w[1] = low | secret_word() << 62;
+    w[2] = b | sign << 8 | secret_word() << 9;
+    w[3] = (least + secret_below(bound)) | secret_word() << 62;
 }
 
 /* What a scan must not do: it ends at the first threshold above d. */
@@ -85,7 +73,7 @@ int main(int argc, char **argv)
 
     if (argc != 3)
         return 2;
-    secret = (uint64_t)argv[2][0] * UINT64_C(0x9e3779b97f4a7c15);
+    seed_secrets(argv[2]);
     for (int draw = 0; draw < DRAWS; draw++) {
         /* Full after some attempts, or spent, as the public chance has it. */
         uint64_t chance = draw % 8 == 0 ? 1 : 11;

@@ -1,6 +1,7 @@
 /* Calls a function of secrets, for the comparison of traces: `trace_exponential box|leaking SEED`. The seed, one character, gives
  * the secrets, with no jump or address that hangs on it. */
 #include "bliss_box.h"
+#include "secrets.h"
 
 static volatile uint64_t result;
 
@@ -16,16 +17,12 @@ __attribute__((noinline)) static uint64_t leaking(uint64_t n)
 
 int main(int argc, char **argv)
 {
-    uint64_t state;
-
     if (argc != 3)
         return 2;
-    state = (uint64_t)argv[2][0] * UINT64_C(0x9e3779b97f4a7c15);
+    seed_secrets(argv[2]);
     for (int i = 0; i < 200; i++) {
-        uint64_t n;
+        uint64_t n = secret_below(BLISS_EXPONENTIAL_LIMIT + 1);
 
-        state = state * UINT64_C(6364136223846793005) + UINT64_C(1442695040888963407);
-        n = (uint64_t)((unsigned __int128)state * (BLISS_EXPONENTIAL_LIMIT + 1) >> 64);
         result = argv[1][0] == 'b' ? bliss_exponential(n) : leaking(n);
     }
     return 0;
