@@ -3,17 +3,15 @@
 //!
 //! usage: cargo run --release --example bench_draw
 
+mod plain;
+
 use std::hint::black_box;
-use std::time::Instant;
 
 use bliss_box::{list_length, sample_count, word_count, Session, CDT, POLYNOMIAL};
-
-const ROUNDS: usize = 25;
+use plain::{exponential, least, list_polynomial, words, LOW_62};
 
 /// Attempts made in each round, so that rounds of all degrees take the same time.
 const ATTEMPTS: usize = 60_000;
-
-const LOW_62: u64 = (1 << 62) - 1;
 
 /// What both sides draw from and into.
 struct Buffers {
@@ -31,35 +29,6 @@ impl Buffers {
     }
 }
 
-/// Words of splitmix64.
-fn words(count: usize) -> Vec<u64> {
-    let mut state = 1u64;
-    let mut word = || {
-        state = state.wrapping_add(0x9e37_79b9_7f4a_7c15);
-        let mixed = (state ^ (state >> 30)).wrapping_mul(0xbf58_476d_1ce4_e5b9);
-        let mixed = (mixed ^ (mixed >> 27)).wrapping_mul(0x94d0_49bb_1331_11eb);
-        mixed ^ (mixed >> 31)
-    };
-    (0..count).map(|_| word()).collect()
-}
-
-fn product_62(a: u64, b: u64) -> u64 {
-    ((u128::from(a) * u128::from(b)) >> 62) as u64
-}
-
-fn exponential(n: u64, polynomial: &[u64; 21]) -> u64 {
-    const R: u64 = ((1u128 << 84) / 5_916_800) as u64;
-    let v = ((u128::from(n) * u128::from(R)) >> 22) as u64;
-    let mut a = polynomial[20];
-    for entry in polynomial[..20].iter().rev() {
-        a = entry - product_62(a, v);
-    }
-    for _ in 0..6 {
-        a = product_62(a, a);
-    }
-    a
-}
-
 fn two_words(high: u64, low: u64) -> u128 {
     u128::from(high) << 62 | u128::from(low)
 }
@@ -75,9 +44,7 @@ fn list_attempt(list: &mut [u32], t: usize, accepted: usize) {
     for (place, listed) in thresholds.iter_mut().enumerate() {
         *listed = (3 << 24) + place as u32;
     }
-    for (place, listed) in entries.iter_mut().enumerate() {
-        *listed = (4 << 24) + 20 - place as u32;
-    }
+    list_polynomial(entries);
     list[0] = (5 << 24) + accepted as u32;
 }
 
@@ -117,15 +84,6 @@ fn by_the_box(n: usize, buffers: &mut Buffers) -> (usize, usize) {
     (counts.attempts, counts.accepted)
 }
 
-/// The seconds of one round.
-fn timed(calls: usize, mut call: impl FnMut() -> (usize, usize)) -> f64 {
-    let start = Instant::now();
-    for _ in 0..calls {
-        black_box(call());
-    }
-    start.elapsed().as_secs_f64()
-}
-
 fn compare(n: usize) {
     let mut ours = Buffers::new(n);
     let mut plain = Buffers::new(n);
@@ -134,12 +92,8 @@ fn compare(n: usize) {
     assert!(ours.y == plain.y && ours.list == plain.list, "the two draw alike");
 
     let calls = ATTEMPTS / attempts;
-    let mut box_time = f64::INFINITY;
-    let mut plain_time = f64::INFINITY;
-    for _ in 0..ROUNDS {
-        box_time = box_time.min(timed(calls, || by_the_box(black_box(n), black_box(&mut ours))));
-        plain_time = plain_time.min(timed(calls, || baseline(black_box(n), black_box(&mut plain))));
-    }
+    let (box_time, plain_time) =
+        least(calls, || by_the_box(black_box(n), black_box(&mut ours)), || baseline(black_box(n), black_box(&mut plain)));
     let nanoseconds = 1e9 / (calls * attempts) as f64;
     println!(
         "draw, n = {n:4}: {attempts} attempts, {:.1} ns each, plain Rust {:.1} ns, ratio {:.2}",
