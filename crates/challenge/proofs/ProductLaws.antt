@@ -1,9 +1,8 @@
 -- Laws of the challenge product: its terms, its bounds, and one position or one output more. Assumes nothing.
-use mathlib.Core.Path.{_≡_, refl, sym, ap, ap₂, subst, _∙_}
+use mathlib.Core.Path.{_≡_, refl, sym, ap, ap₂, _∙_}
 use mathlib.Core.Bool.{Bool, true, false, cond}
 use mathlib.Core.List.{List, [], _∷_, _++_}
 use Prim.Native.Nat.{ℕ, zero, suc, _+_, _-_, _*_, _≤_, _<_}
-use native.Mathlib.Nat.{le-trans}
 use native.Mathlib.Numerals.{add-one}
 use native.Mathlib.Omega.{arith}
 use lib.Dec.{leb}
@@ -60,12 +59,17 @@ module _ (key : List ℤ) (n : ℕ) (h : allWithin 7 key ≡ true) where
   unfolding product
   product-within challenge l = within-append 448 (outputsFrom key n 0 challenge 0 n) (outputsFrom key n n challenge 0 n) (outputs-within 0 challenge l 0 n) (outputs-within n challenge l 0 n)
 
--- ** Lengths
+-- ** Lengths, and the size of a half
 
 pub length-outputsFrom : (key : List ℤ) (n base : ℕ) (challenge : List ℕ) (i count : ℕ) → length (outputsFrom key n base challenge i count) ≡ count
 unfolding outputsFrom
 length-outputsFrom key n base challenge i zero = refl
 length-outputsFrom key n base challenge i (suc count) = ap suc (length-outputsFrom key n base challenge (suc i) count)
+
+pub half-bound : (key : List ℤ) (n base : ℕ) (challenge : List ℕ) → allWithin 7 key ≡ true → length challenge ≤ 64 → squareSum (outputsFrom key n base challenge 0 n) ≤ 200704 * n
+half-bound key n base challenge h l =
+    let all = outputsFrom key n base challenge 0 n in
+    omega (arith, squares-within 448 all (outputs-within key n h base challenge l 0 n), length-outputsFrom key n base challenge 0 n)
 
 pub length-product : (key : List ℤ) (n : ℕ) (challenge : List ℕ) → length (product key n challenge) ≡ 2 * n
 unfolding product
@@ -180,12 +184,7 @@ module _ (key : List ℤ) (n base : ℕ) (challenge : List ℕ) (z₀ : List ℤ
       (ap (λ (p : ℕ). sets (sets list place (outputEntries n base i challenge)) (place + p) (outputEntriesFrom n base challenge (suc i) m)) (sym (length-outputEntries n base i challenge))
       ∙ sym (sets-append list place (outputEntries n base i challenge) (outputEntriesFrom n base challenge (suc i) m)))
 
-  -- the sums so far are no more than the whole, which is small
-  pub sum-bound : allWithin 7 key ≡ true → length challenge ≤ 64 → squareSum (outputsFrom key n base challenge 0 n) ≤ 200704 * n
-  sum-bound h l =
-      let all = outputsFrom key n base challenge 0 n in
-      omega (arith, squares-within 448 all (outputs-within key n h base challenge l 0 n), length-outputsFrom key n base challenge 0 n)
-
+  -- the sum so far is no more than the whole
   pub square-fits : (z : List ℤ) (list : List ℕ) (squares i place : ℕ) → Halved key n base challenge z₀ list₀ at z list squares i place → i < n
       → squares + natAbs (outputAt key n base i challenge) * natAbs (outputAt key n base i challenge) ≤ squareSum (outputsFrom key n base challenge 0 n)
   square-fits z list squares i place s h =

@@ -1,12 +1,15 @@
 -- The challenge product of document 01, modulo X^n + 1, and the entries of its reads. A half of the key is told by its base, where it
 -- starts: s1 at 0 and s2 at n. Assumes nothing.
-use mathlib.Core.Bool.{cond}
+use mathlib.Core.Path.{_≡_}
+use mathlib.Core.Bool.{true, cond}
 use mathlib.Core.List.{List, [], _∷_, _++_}
-use Prim.Native.Nat.{ℕ, zero, suc, _+_, _-_}
+use Prim.Native.Nat.{ℕ, zero, suc, _+_, _-_, _*_, _≤_}
 use lib.Dec.{leb}
-use lib.ListN.{getD}
+use lib.ListN.{length, getD}
 use lib.IntN.{ℤ, pos, negℤ, _+ℤ_}
 use Rattle.read_list.specs.Entries.{entry}
+use Rattle.signed.specs.Vectors.{allWithin}
+use Rattle.challenge.specs.Challenge.{positionsBelow}
 
 -- ** The product
 
@@ -31,6 +34,14 @@ outputsFrom key n base challenge i (suc count) = outputAt key n base i challenge
 -- Sc: the n outputs of either half
 unfoldable pub product : (key : List ℤ) (n : ℕ) (challenge : List ℕ) → List ℤ
 product key n challenge = outputsFrom key n 0 challenge 0 n ++ outputsFrom key n n challenge 0 n
+
+-- what a product asks for: a key of 2n small values, and not too many positions, each below n
+pub record Factors (key : List ℤ) (n : ℕ) (challenge : List ℕ) : Type 0 where
+  pub degree : n ≤ 1024
+  pub both : length key ≡ 2 * n
+  pub small : allWithin 7 key ≡ true
+  pub few : length challenge ≤ 64
+  pub below : positionsBelow n challenge ≡ true
 
 -- ** The read list
 

@@ -7,7 +7,7 @@ ghost use lib.Seq.{sets};
 ghost use Rattle.signed.specs.Vectors.{allWithin, squareSum};
 ghost use Rattle.read_list.specs.Entries.{entry};
 ghost use Rattle.challenge.specs.Challenge.{positionsBelow, ascends, isChallenge};
-ghost use Rattle.challenge.specs.Product.{indexOf, termAt, outputAt, outputsFrom, product, outputEntries, outputEntriesFrom, productEntries};
+ghost use Rattle.challenge.specs.Product.{indexOf, termAt, outputAt, outputsFrom, product, Factors, outputEntries, outputEntriesFrom, productEntries};
 
 // Whether every position is below n.
 fn positions_below(n: usize, challenge: &[u32]) -> bool
@@ -79,8 +79,8 @@ fn output_at(
     list: &mut [u32],
     at: usize,
 ) -> i32
-    requires { ⌜ (length (now key) ≡ 2 * n) × (allWithin 7 (now key) ≡ true) × (n ≤ 1024) × (base ≤ n) × (i < n) ⌝ }
-    requires { ⌜ (positionsBelow n (now challenge) ≡ true) × (length (now challenge) ≤ 64) × (at + length (now challenge) ≤ length (now list)) ⌝ }
+    requires { ⌜ Factors (now key) n (now challenge) ⌝ }
+    requires { ⌜ (base ≤ n) × (i < n) × (at + length (now challenge) ≤ length (now list)) ⌝ }
     ensures { λ r. ⌜ (r ≡ outputAt (now (key .entry)) n base i (now (challenge .entry))) × (now (list .exit) ≡ sets (now (list .entry)) at (outputEntries n base i (now (challenge .entry)))) ⌝ }
 {
     let mut sum: i32 = 0;
@@ -104,8 +104,8 @@ fn half(
     list: &mut [u32],
     at: usize,
 ) -> u64
-    requires { ⌜ (length (now key) ≡ 2 * n) × (allWithin 7 (now key) ≡ true) × (n ≤ 1024) × (base ≤ n) × (length (now z) ≡ 2 * n) ⌝ }
-    requires { ⌜ (positionsBelow n (now challenge) ≡ true) × (length (now challenge) ≤ 64) × (at + n * length (now challenge) ≤ length (now list)) ⌝ }
+    requires { ⌜ Factors (now key) n (now challenge) ⌝ }
+    requires { ⌜ (base ≤ n) × (length (now z) ≡ 2 * n) × (at + n * length (now challenge) ≤ length (now list)) ⌝ }
     ensures { λ r. ⌜ r ≡ squareSum (outputsFrom (now (key .entry)) n base (now (challenge .entry)) 0 n) ⌝ }
     ensures { λ _. ⌜ now (z .exit) ≡ sets (now (z .entry)) base (outputsFrom (now (key .entry)) n base (now (challenge .entry)) 0 n) ⌝ }
     ensures { λ _. ⌜ now (list .exit) ≡ sets (now (list .entry)) at (outputEntriesFrom n base (now (challenge .entry)) 0 n) ⌝ }
@@ -132,8 +132,8 @@ pub fn product_listed(
     list: &mut [u32],
     at: usize,
 ) -> u64
-    requires { ⌜ (length (now key) ≡ 2 * n) × (allWithin 7 (now key) ≡ true) × (n ≤ 1024) × (length (now z) ≡ 2 * n) ⌝ }
-    requires { ⌜ (positionsBelow n (now challenge) ≡ true) × (length (now challenge) ≤ 64) × (at + 2 * n * length (now challenge) ≤ length (now list)) ⌝ }
+    requires { ⌜ Factors (now key) n (now challenge) ⌝ }
+    requires { ⌜ (length (now z) ≡ 2 * n) × (at + 2 * n * length (now challenge) ≤ length (now list)) ⌝ }
     ensures { λ r. ⌜ r ≡ squareSum (product (now (key .entry)) n (now (challenge .entry))) ⌝ }
     ensures { λ _. ⌜ now (z .exit) ≡ product (now (key .entry)) n (now (challenge .entry)) ⌝ }
     ensures { λ _. ⌜ now (list .exit) ≡ sets (now (list .entry)) at (productEntries n (now (challenge .entry))) ⌝ }

@@ -10,7 +10,7 @@ ghost use Rattle.exponential.specs.Exponential.{polynomialEntry, polynom
 pub const RECIPROCAL_215: u64 = 3269134179596076729;
 
 // The largest N.
-const LIMIT: u64 = 5534960;
+pub const LIMIT: u64 = 5534960;
 
 // 2^63 + 12.
 const REFUSAL_12: u64 = 0x8000_0000_0000_000c;

@@ -2,7 +2,7 @@
 use mathlib.Core.Path.{_≡_, refl, sym, ap, ap₂, _∙_}
 use mathlib.Core.Bool.{Bool, true, false, cond}
 use mathlib.Core.List.{List, [], _∷_, _++_, append-assoc}
-use Prim.Native.Nat.{ℕ, _+_, _-_, _*_, _%_, _^_, _≤_, _<_, min}
+use Prim.Native.Nat.{ℕ, _+_, _-_, _*_, _^_, _≤_, _<_, min}
 use native.Mathlib.Nat.{lt-of-le-of-lt, mul-le-mul-right}
 use native.Mathlib.Omega.{arith}
 use lib.ListN.{length, set, replicate, length-append}
@@ -12,16 +12,17 @@ use mir.Val.{boolByte}
 use Rattle.arithmetic.specs.Words.{bit}
 use Rattle.read_list.specs.Entries.{entry, placesUp, placesDown}
 use Rattle.read_list.proofs.Laws.{length-placesUp, length-placesDown, sets-append}
+use Rattle.exponential.specs.Exponential.{limit}
 use Rattle.challenge.specs.Product.{productEntries}
 use Rattle.challenge.proofs.ProductLaws.{length-productEntries}
-use Rattle.response.specs.Response.{firstExponent, respondEntries, respondedBy}
+use Rattle.response.specs.Response.{squaresLimit, firstExponent, respondEntries, respondedBy}
 use Rattle.response.proofs.RespondTells.{length-respondEntries}
 
-pub first-exponent : (a : ℕ) → 46225 - min a 46225 ≡ firstExponent a
+pub first-exponent : (a : ℕ) → squaresLimit - min a squaresLimit ≡ firstExponent a
 first-exponent a = omega arith
 
 -- an exponent up to the exponential's limit is scaled within its range
-pub scales : (n r : ℕ) → n ≤ 5534960 → 5534960 * r < 2 ^ 84 → n * r < 2 ^ 84
+pub scales : (n r : ℕ) → n ≤ limit → limit * r < 2 ^ 84 → n * r < 2 ^ 84
 scales n r h g = lt-of-le-of-lt (mul-le-mul-right r h) g
 
 -- ** The entries

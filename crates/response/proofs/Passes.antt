@@ -11,7 +11,7 @@ use lib.Seq.{take-suc, take-all, drop-cons, drop-length, append-snoc, set-at, ge
 use lib.IntN.{ℤ, pos, negℤ, natAbs, _+ℤ_, _*ℤ_, +ℤ-idl, +ℤ-idr, +ℤ-assoc}
 use Rattle.signed.specs.Vectors.{allWithin, squareSum, innerProduct}
 use Rattle.signed.proofs.Signs.{abs-neg, abs-add, abs-mul}
-use Rattle.signed.proofs.Vectors.{within-parts, within-none, within-more, within-at, squares-none, squares-within, squares-from, inner-from, inner-none, inner-within}
+use Rattle.signed.proofs.Vectors.{within-parts, within-none, within-more, squares-none, squares-within, squares-from, inner-from, inner-none, inner-within}
 use Rattle.response.specs.Response.{responseOf}
 
 -- ** The values

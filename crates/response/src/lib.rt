@@ -9,10 +9,14 @@ ghost use lib.IntN.{natAbs, _+ℤ_, _*ℤ_};
 ghost use Rattle.arithmetic.specs.Words.{bit};
 ghost use Rattle.read_list.specs.Entries.{entry, placesUp, placesDown};
 ghost use Rattle.signed.specs.Vectors.{allWithin, squareSum, innerProduct};
-ghost use Rattle.exponential.specs.Exponential.{polynomial, expScaled};
-ghost use Rattle.challenge.specs.Challenge.{positionsBelow};
-ghost use Rattle.challenge.specs.Product.{product, productEntries};
+ghost use Rattle.exponential.specs.Exponential.{polynomial, expScaled, limit};
+ghost use Rattle.challenge.specs.Product.{product, Factors, productEntries};
 ghost use Rattle.response.specs.Response.{subtracts, responseOf, coshPasses, allPass, measuresOf, acceptsBy, responseZ, responseBit, respondedBy};
+
+// The most that A may be, and the most that Z may be.
+const SQUARES_LIMIT: u64 = 46225;
+
+const NORM_LIMIT: u64 = 165688384;
 
 // The answer of a response: its bit, and the entries listed.
 pub struct Answer {
@@ -104,7 +108,7 @@ fn all_pass(m: Measures, e1: u64, e2: u64) -> bool
 {
     let second = arithmetic::low62(m.second);
     let cosh = passes_cosh(e2, m.third);
-    (m.squares <= 46225) & ((m.norm <= 165688384) & ((second < e1) & cosh))
+    (m.squares <= SQUARES_LIMIT) & ((m.norm <= NORM_LIMIT) & ((second < e1) & cosh))
 }
 
 // The challenge product, three words and the response, in the order of the list: z becomes the response, and entries are listed from the
@@ -118,8 +122,8 @@ fn measured(
     z: &mut [i32],
     list: &mut [u32],
 ) -> Measures
-    requires { ⌜ (degree ≤ 1024) × (positionsBelow degree (now challenge) ≡ true) × (length (now challenge) ≤ 64) × (3 ≤ length (now words)) × (2 * degree * length (now challenge) + 4 ≤ length (now list)) ⌝ }
-    requires { ⌜ (length (now key) ≡ 2 * degree) × (allWithin 7 (now key) ≡ true) × (length (now y) ≡ 2 * degree) × (allWithin 2815 (now y) ≡ true) × (length (now z) ≡ 2 * degree) ⌝ }
+    requires { ⌜ Factors (now key) degree (now challenge) ⌝ }
+    requires { ⌜ (3 ≤ length (now words)) × (length (now y) ≡ 2 * degree) × (allWithin 2815 (now y) ≡ true) × (length (now z) ≡ 2 * degree) × (2 * degree * length (now challenge) + 4 ≤ length (now list)) ⌝ }
     ensures { λ r. ⌜ r ≡ measuresOf (now (y .entry)) (product (now (key .entry)) degree (now (challenge .entry))) (now (words .entry)) ⌝ }
     ensures { λ _. ⌜ now (z .exit) ≡ responseZ (now (y .entry)) (product (now (key .entry)) degree (now (challenge .entry))) (now (words .entry)) ⌝ }
     ensures { λ _. ⌜ now (list .exit) ≡ sets (now (list .entry)) 0 (entry 7 degree ∷ (productEntries degree (now (challenge .entry)) ++ placesUp 2 0 3)) ⌝ }
@@ -140,12 +144,12 @@ fn measured(
 
 // The bit of a response. Both exponentials are always worked out. Their reads and the bit are listed from the index `at` of a list on.
 fn judged(table: &[u64], reciprocal: u64, m: Measures, list: &mut [u32], at: usize) -> bool
-    requires { ⌜ (now table ≡ polynomial) × (5534960 * reciprocal < 2 ^ 84) × (natAbs (m .inner) < 2 ^ 60) × (at + 43 ≤ length (now list)) ⌝ }
+    requires { ⌜ (now table ≡ polynomial) × (limit * reciprocal < 2 ^ 84) × (natAbs (m .inner) < 2 ^ 60) × (at + 43 ≤ length (now list)) ⌝ }
     ensures { λ r. ⌜ r ≡ acceptsBy (expScaled (now (table .entry)) reciprocal) m ⌝ }
     ensures { λ r. ⌜ now (list .exit) ≡ sets (now (list .entry)) at (placesDown 4 21 ++ (placesDown 4 21 ++ (entry 9 (bit r) ∷ []))) ⌝ }
 {
-    let first_exponent = 46225 - arithmetic::smaller(m.squares, 46225);
-    let second_exponent = arithmetic::smaller(2 * signed::size_of(m.inner), 5534960);
+    let first_exponent = SQUARES_LIMIT - arithmetic::smaller(m.squares, SQUARES_LIMIT);
+    let second_exponent = arithmetic::smaller(2 * signed::size_of(m.inner), exponential::LIMIT);
     let e1 = exponential::exp_listed(table, reciprocal, first_exponent, list, at);
     let e2 = exponential::exp_listed(table, reciprocal, second_exponent, list, at + 21);
     let accepted = all_pass(m, e1, e2);
@@ -166,8 +170,8 @@ pub fn respond(
     z: &mut [i32],
     list: &mut [u32],
 ) -> Answer
-    requires { ⌜ (degree ≤ 1024) × (positionsBelow degree (now challenge) ≡ true) × (length (now challenge) ≤ 64) × (now table ≡ polynomial) × (5534960 * reciprocal < 2 ^ 84) × (3 ≤ length (now words)) ⌝ }
-    requires { ⌜ (length (now key) ≡ 2 * degree) × (allWithin 7 (now key) ≡ true) × (length (now y) ≡ 2 * degree) × (allWithin 2815 (now y) ≡ true) × (length (now z) ≡ 2 * degree) × (2 * degree * length (now challenge) + 47 ≤ length (now list)) ⌝ }
+    requires { ⌜ Factors (now key) degree (now challenge) ⌝ }
+    requires { ⌜ (now table ≡ polynomial) × (limit * reciprocal < 2 ^ 84) × (3 ≤ length (now words)) × (length (now y) ≡ 2 * degree) × (allWithin 2815 (now y) ≡ true) × (length (now z) ≡ 2 * degree) × (2 * degree * length (now challenge) + 47 ≤ length (now list)) ⌝ }
     ensures { λ r. ⌜ record { answer = r; y = now (y .exit); z = now (z .exit); list = now (list .exit) } ≡ respondedBy degree (responseBit (expScaled (now (table .entry)) reciprocal) (now (y .entry)) (product (now (key .entry)) degree (now (challenge .entry))) (now (words .entry))) (now (challenge .entry)) (responseZ (now (y .entry)) (product (now (key .entry)) degree (now (challenge .entry))) (now (words .entry))) (now (list .entry)) ⌝ }
 {
     let m = measured(degree, challenge, words, key, y, z, list);

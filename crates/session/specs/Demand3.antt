@@ -8,7 +8,7 @@ use Rattle.read_list.specs.Agreement.{Lent, Agree}
 use Rattle.session.specs.declared.Session.{Session}
 use Rattle.session.specs.declared.Drawn.{Drawn}
 use Rattle.session.specs.declared.Responded.{Responded}
-use Rattle.session.specs.Calls.{opened, Draw, DrawLeft, Respond, RespondLeft}
+use Rattle.session.specs.Calls.{opened}
 use Rattle.session.specs.Histories.{Call, draw, respond, Left, drawn, responded, leftBy, refusalIn, nextIn, entriesIn, Linked, readList, history}
 
 -- ** What the second half asks of two lists of calls

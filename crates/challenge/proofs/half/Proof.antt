@@ -1,7 +1,7 @@
 -- `challenge::half` meets its contract: after i outputs, what is done and what the others give are the half. Assumes nothing.
 use borrow.Author.Needs.{needs}
-use mathlib.Core.Path.{_≡_, ap, sym, _∙_}
-use Prim.Native.Nat.{ℕ, _+_, _-_, _*_, _≤_, _<_}
+use mathlib.Core.Path.{_≡_, ap, _∙_}
+use Prim.Native.Nat.{ℕ, _+_, _-_, _*_, _≤_}
 use native.Mathlib.Nat.{mul-le-mul-right}
 use native.Mathlib.Omega.{arith}
 use lib.ListN.{length, set}
@@ -10,7 +10,7 @@ use mir.Syntax.{w32}
 use mir.Val.{toZ, ofZ}
 use Rattle.signed.proofs.Signs.{read-back}
 use Rattle.challenge.specs.Product.{outputAt}
-use Rattle.challenge.proofs.ProductLaws.{output-within, sum-bound, square-fits, Halved, half-start, half-more, half-end}
+use Rattle.challenge.proofs.ProductLaws.{output-within, half-bound, square-fits, Halved, half-start, half-more, half-end}
 use Rattle.challenge.proofs.half.Statement.{statement}
 use Rattle.challenge.proofs.half.Tie as tie
 
@@ -33,8 +33,7 @@ room c =
 output-at-requires : tie.Need-output-at-requires Inv-loop μ-loop
 output-at-requires c κs =
     let s = c .before .before .before .before .before in
-    let p = s .pre .0 in
-    ((p .0, p .1, p .2, p .3, c .before .loop-test .taken), (s .pre .1 .0, s .pre .1 .1, omega (arith, room (c .before), c .before .before .loop .inv .list-size)))
+    (s .pre .0, (s .pre .1 .0, c .before .loop-test .taken, omega (arith, room (c .before), c .before .before .loop .inv .list-size)))
 
 add-output : tie.Need-add-output Inv-loop μ-loop
 add-output c = search needs
@@ -52,7 +51,7 @@ output c = read-back (record { sfits = c .output-at .ok }) ∙ c .output-at .ens
 square-requires : tie.Need-square-requires Inv-loop μ-loop
 square-requires c κs =
     let s = c .before .before .before .before .before .before .before .before in
-    rw (output (c .before .before)) (omega (arith, output-within (s .args .key .now) (s .args .n) (s .pre .0 .1) (s .args .base) (c .before .before .before .before .before .loop .i) (s .args .challenge .now), s .pre .1 .1))
+    rw (output (c .before .before)) (omega (arith, output-within (s .args .key .now) (s .args .n) (s .pre .0 .small) (s .args .base) (c .before .before .before .before .before .loop .i) (s .args .challenge .now), s .pre .0 .few))
 
 squared : (c : tie.After-square Inv-loop μ-loop) → let s = c .before .before .before .before .before .before .before .before .before .args in
     let v = outputAt (s .key .now) (s .n) (s .base) (c .before .before .before .before .before .before .loop .i) (s .challenge .now) in
@@ -70,8 +69,8 @@ add-squares c =
             arith,
             squared c,
             square-fits (a .key .now) (a .n) (a .base) (a .challenge .now) (a .z .now) (a .list .now) (a .at) (l .z) (l .list) (l .squares) (l .i) (l .place) (l .inv) (c .before .before .before .before .before .loop-test .taken),
-            sum-bound (a .key .now) (a .n) (a .base) (a .challenge .now) (a .z .now) (a .list .now) (a .at) (s .pre .0 .1) (s .pre .1 .1),
-            s .pre .0 .2,
+            half-bound (a .key .now) (a .n) (a .base) (a .challenge .now) (s .pre .0 .small) (s .pre .0 .few),
+            s .pre .0 .degree,
           );
     }
 

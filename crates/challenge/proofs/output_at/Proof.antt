@@ -1,6 +1,6 @@
 -- `challenge::output_at` meets its contract: after k positions the sum and what the others add are the output. Assumes nothing.
 use borrow.Author.Needs.{needs}
-use mathlib.Core.Path.{_≡_, ap, ap₂, sym, subst, _∙_}
+use mathlib.Core.Path.{ap, sym, subst, _∙_}
 use Prim.Native.Nat.{_-_, _≤_}
 use native.Mathlib.Omega.{arith}
 use lib.ListN.{length}
@@ -38,13 +38,13 @@ term-at-requires : tie.Need-term-at-requires Inv-loop μ-loop
 term-at-requires c κs =
     let s = c .before .before .before .before .before .before in
     let p = s .pre .0 in
-    (p .0, p .1, p .2, p .3, p .4, position-below (s .args .n) (s .args .challenge .now) (c .before .before .before .loop .k) (s .pre .1 .0) (c .before .before .loop-test .taken), omega (arith, c .before .before .before .loop .inv .size, s .pre .1 .2))
+    (p .both, p .small, p .degree, s .pre .1 .0, s .pre .1 .1, position-below (s .args .n) (s .args .challenge .now) (c .before .before .before .loop .k) (p .below) (c .before .before .loop-test .taken), omega (arith, c .before .before .before .loop .inv .size, s .pre .1 .2))
 
 -- what the position adds is small
 term-small : (c : tie.After-term-at Inv-loop μ-loop) → natAbs (c .term-at .result) ≤ 7
 term-small c =
     let s = c .before .before .before .before .before .before .before in
-    subst (λ (r : ℤ). natAbs r ≤ 7) (sym (c .term-at .ensures .0)) (term-within (s .args .key .now) (s .args .n) (s .args .base) (s .args .i) _ 7 (s .pre .0 .1))
+    subst (λ (r : ℤ). natAbs r ≤ 7) (sym (c .term-at .ensures .0)) (term-within (s .args .key .now) (s .args .n) (s .args .base) (s .args .i) _ 7 (s .pre .0 .small))
 
 plus-requires : tie.Need-plus-requires Inv-loop μ-loop
 plus-requires c κs =
@@ -63,7 +63,7 @@ loop-again c =
     let l = c .before .before .before .before .before .before .before .loop in
     let s = c .before .before .before .before .before .before .before .before .before .before in
     sum-more (s .args .key .now) (s .args .n) (s .args .base) (s .args .i) (s .args .challenge .now) (s .args .list .now) (s .args .at) (l .list) _ (toZ w32 (l .sum)) _ (l .k)
-    (l .inv) (c .before .before .before .before .before .before .loop-test .taken) (s .pre .0 .1) (t .ensures .1)
+    (l .inv) (c .before .before .before .before .before .before .loop-test .taken) (s .pre .0 .small) (t .ensures .1)
     (read-back (record { sfits = c .plus .ok }) ∙ c .plus .ensures ∙ ap (λ (r : ℤ). toZ w32 (l .sum) +ℤ r) (read-back (record { sfits = t .ok }) ∙ t .ensures .0))
 
 same-length : tie.Need-same-length Inv-loop μ-loop

@@ -1,6 +1,6 @@
 -- `challenge::product_listed` meets its contract: one half, then the other. Assumes nothing.
 use borrow.Author.Needs.{needs}
-use mathlib.Core.Path.{_≡_, ap, ap₂, _∙_}
+use mathlib.Core.Path.{ap, ap₂, _∙_}
 use mathlib.Core.List.{List}
 use Prim.Native.Nat.{ℕ, _+_, _*_, _≤_}
 use native.Mathlib.Omega.{arith}
@@ -9,16 +9,14 @@ use lib.Seq.{sets}
 use lib.IntN.{ℤ}
 use Rattle.signed.specs.Vectors.{squareSum}
 use Rattle.challenge.specs.Product.{outputsFrom, outputEntriesFrom}
-use Rattle.challenge.proofs.ProductLaws.{sum-bound, product-squares, product-filled, product-written}
+use Rattle.challenge.proofs.ProductLaws.{half-bound, product-squares, product-filled, product-written}
 use Rattle.challenge.proofs.product_listed.Statement.{statement}
 use Rattle.challenge.proofs.product_listed.Tie as tie
 
 half-requires : tie.Need-half-requires
 half-requires c κs =
     let s = c .before .before .before .before in
-    let p = s .pre .0 in
-    let q = s .pre .1 in
-    ((p .0, p .1, p .2, omega arith, p .3), (q .0, q .1, omega (arith, q .2)))
+    (s .pre .0, (omega arith, s .pre .1 .0, omega (arith, s .pre .1 .1)))
 
 mul-half : tie.Need-mul-half
 mul-half c = search needs
@@ -29,18 +27,15 @@ add-half c = search needs
 half-requires-2 : tie.Need-half-requires-2
 half-requires-2 c κs =
     let s = c .before .before .before .before .before .before .before .before .before .before in
-    let h = c .before .before .before .before .before .half in
-    let p = s .pre .0 in
-    let q = s .pre .1 in
-    ((p .0, p .1, p .2, omega arith, search needs), (q .0, q .1, search needs))
+    (s .pre .0, (omega arith, search needs, search needs))
 
 small : (s : tie.Start) (base : ℕ) → squareSum (outputsFrom (s .args .key .now) (s .args .n) base (s .args .challenge .now) 0 (s .args .n)) ≤ 200704 * s .args .n
-small s base = let a = s .args in sum-bound (a .key .now) (a .n) base (a .challenge .now) (a .z .now) (a .list .now) (a .at) (s .pre .0 .1) (s .pre .1 .1)
+small s base = let a = s .args in half-bound (a .key .now) (a .n) base (a .challenge .now) (s .pre .0 .small) (s .pre .0 .few)
 
 add-result : tie.Need-add-result
 add-result c =
     let s = c .before .before .before .before .before .before .before .before .before .before .before .before .before .before in
-    record { fits = omega (arith, c .before .before .before .before .before .before .before .before .before .half .ensures .0, c .before .before .before .half2 .ensures .0, small s 0, small s (s .args .n), s .pre .0 .2) }
+    record { fits = omega (arith, c .before .before .before .before .before .before .before .before .before .half .ensures .0, c .before .before .before .half2 .ensures .0, small s 0, small s (s .args .n), s .pre .0 .degree) }
 
 same-length : tie.Need-same-length
 same-length c = search needs
@@ -56,7 +51,7 @@ returns c =
     let second = c .before .before .before .half2 .ensures in (
       ap₂ (λ (x y : ℕ). x + y) (first .0) (second .0) ∙ product-squares (a .key .now) (a .n) (a .challenge .now),
       (
-        second .1 .0 ∙ ap (λ (l : List ℤ). sets l (a .n) (outputsFrom (a .key .now) (a .n) (a .n) (a .challenge .now) 0 (a .n))) (first .1 .0) ∙ product-filled (a .key .now) (a .n) (a .challenge .now) (a .z .now) (s .pre .0 .3),
+        second .1 .0 ∙ ap (λ (l : List ℤ). sets l (a .n) (outputsFrom (a .key .now) (a .n) (a .n) (a .challenge .now) 0 (a .n))) (first .1 .0) ∙ product-filled (a .key .now) (a .n) (a .challenge .now) (a .z .now) (s .pre .1 .0),
         second .1 .1 ∙ ap (λ (l : List ℕ). sets l (a .at + a .n * length (a .challenge .now)) (outputEntriesFrom (a .n) (a .n) (a .challenge .now) 0 (a .n))) (first .1 .1) ∙ product-written (a .n) (a .challenge .now) (a .list .now) (a .at),
       ),
     )

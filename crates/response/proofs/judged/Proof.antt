@@ -1,15 +1,14 @@
 -- `response::judged` meets its contract: the four tests are those of the definition. Assumes nothing.
 use borrow.Author.Needs.{needs}
 use mathlib.Core.Path.{_≡_, ap, ap₂, _∙_}
-use Prim.Native.Nat.{ℕ, _+_, _-_, _*_, _≤_, _<_, min}
+use Prim.Native.Nat.{ℕ, _-_, _*_, min}
 use native.Mathlib.Omega.{arith}
-use lib.ListN.{length}
-use lib.IntN.{ℤ, natAbs}
+use lib.IntN.{natAbs}
 use mir.Syntax.{w64}
 use mir.Val.{toZ, ofZ}
 use Rattle.signed.proofs.Signs.{fits-of-abs, read-back}
-use Rattle.exponential.specs.Exponential.{expScaled}
-use Rattle.response.specs.Response.{acceptsBy, allPass}
+use Rattle.exponential.specs.Exponential.{expScaled, limit}
+use Rattle.response.specs.Response.{squaresLimit, acceptsBy, allPass}
 use Rattle.response.proofs.Judging.{first-exponent, scales, bit-as-place, judging-written}
 use Rattle.response.proofs.judged.Statement.{statement}
 use Rattle.response.proofs.judged.Tie as tie
@@ -77,7 +76,7 @@ returns c =
     let n₁ = n₂ .before .before .before in
     let s = n₁ .before .before .before in
     let e = expScaled (s .args .table .now) (s .args .reciprocal) in (
-      p .all-pass .ensures ∙ ap₂ (allPass (s .args .m)) (one .exp-listed .ensures .0 ∙ ap e (ap (λ (k : ℕ). 46225 - k) (n₁ .smaller .ensures) ∙ first-exponent (s .args .m .squares))) (two .exp-listed2 .ensures .0 ∙ ap e (n₂ .smaller2 .ensures ∙ ap (λ (k : ℕ). min (2 * k) 5534960) (size (n₂ .before)))),
+      p .all-pass .ensures ∙ ap₂ (allPass (s .args .m)) (one .exp-listed .ensures .0 ∙ ap e (ap (λ (k : ℕ). squaresLimit - k) (n₁ .smaller .ensures) ∙ first-exponent (s .args .m .squares))) (two .exp-listed2 .ensures .0 ∙ ap e (n₂ .smaller2 .ensures ∙ ap (λ (k : ℕ). min (2 * k) limit) (size (n₂ .before)))),
       judging-written (p .all-pass .result) (s .args .list .now) _ _ _ (s .args .at) (one .exp-listed .ensures .2) (two .exp-listed2 .ensures .2) (c .before .before .note .ensures),
     )
 

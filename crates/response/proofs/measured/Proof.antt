@@ -1,7 +1,6 @@
 -- `response::measured` meets its contract. Assumes nothing.
 use borrow.Author.Needs.{needs}
-use mathlib.Core.Path.{_≡_, refl, sym, ap, ap₂, subst, _∙_}
-use mathlib.Core.Bool.{true}
+use mathlib.Core.Path.{_≡_, sym, ap, ap₂, _∙_}
 use mathlib.Core.List.{List, _∷_, _++_}
 use Prim.Native.Nat.{ℕ, _+_, _*_, _≤_}
 use native.Mathlib.Nat.{le-trans, mul-le-mul-left}
@@ -28,9 +27,7 @@ note-requires c κs = search needs
 product-listed-requires : tie.Need-product-listed-requires
 product-listed-requires c κs =
     let s = c .before .before .before .before .before .before .before .before .before in
-    let p = s .pre .0 in
-    let q = s .pre .1 in
-    ((q .0, q .1, p .0, q .4), (p .1, p .2, omega (arith, p .4, c .before .before .before .before .note .kept .1 .1 .0)))
+    (s .pre .0, (s .pre .1 .3, omega (arith, s .pre .1 .4, c .before .before .before .before .note .kept .1 .1 .0)))
 
 mul-at : tie.Need-mul-at
 mul-at c = search needs
@@ -50,7 +47,7 @@ add-product-requires c κs =
     let a = s .args in
     let made = c .before .before .before .before .before .before .before .before .product-listed .ensures .1 .0 in
     let size = ap length made ∙ length-product (a .key .now) (a .degree) (a .challenge .now) in
-    (s .pre .1 .2 ∙ sym size, omega (arith, size, s .pre .0 .0), s .pre .1 .3, ap (allWithin 448) made ∙ product-within (a .key .now) (a .degree) (s .pre .1 .1) (a .challenge .now) (s .pre .0 .2))
+    (s .pre .1 .1 ∙ sym size, omega (arith, size, s .pre .0 .degree), s .pre .1 .2, ap (allWithin 448) made ∙ product-within (a .key .now) (a .degree) (s .pre .0 .small) (a .challenge .now) (s .pre .0 .few))
 
 same-length : tie.Need-same-length
 same-length c = search needs

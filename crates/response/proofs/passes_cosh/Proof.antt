@@ -1,11 +1,10 @@
 -- `response::passes_cosh` meets its contract: both sides are numbers of two words. Assumes nothing.
 use borrow.Author.Needs.{needs}
-use mathlib.Core.Path.{_≡_, ap, ap₂, _∙_}
+use mathlib.Core.Path.{ap, ap₂, _∙_}
 use Prim.Native.Nat.{ℕ, _+_, _*_, _/_, _^_, _≤_}
 use native.Mathlib.Nat.{mul-le-mul}
 use native.Mathlib.Omega.{arith}
 use lib.Dec.{ltb, eqb}
-use Rattle.arithmetic.specs.Words.{value}
 use Rattle.arithmetic.proofs.Bits.{bit-is-1}
 use Rattle.response.specs.Response.{coshPasses}
 use Rattle.response.proofs.passes_cosh.Statement.{statement}

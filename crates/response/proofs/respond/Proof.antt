@@ -1,15 +1,11 @@
 -- `response::respond` meets its contract. Assumes nothing.
 use borrow.Author.Needs.{needs}
-use mathlib.Core.Path.{_≡_, refl, sym, ap, ap₂, _∙_}
-use mathlib.Core.Bool.{Bool, cond}
-use mathlib.Core.List.{List, [], _∷_, _++_}
-use Prim.Native.Nat.{ℕ, _+_, _*_, _≤_}
+use mathlib.Core.Path.{ap, _∙_}
+use Prim.Native.Nat.{_*_, _≤_}
 use native.Mathlib.Nat.{mul-le-mul}
 use native.Mathlib.Omega.{arith}
 use lib.ListN.{length, getD}
-use lib.Seq.{sets}
 use lib.IntN.{natAbs}
-use Rattle.read_list.specs.Entries.{entry, placesUp, placesDown}
 use Rattle.challenge.specs.Product.{product}
 use Rattle.challenge.proofs.ProductLaws.{length-product, product-within}
 use Rattle.response.specs.declared.Measures.{Measures}
@@ -22,9 +18,8 @@ use Rattle.response.proofs.respond.Tie as tie
 measured-requires : tie.Need-measured-requires
 measured-requires c κs =
     let s = c .before .before .before .before .before .before .before in
-    let p = s .pre .0 in
-    let q = s .pre .1 in
-    ((p .0, p .1, p .2, p .5, omega (arith, q .5)), (q .0, q .1, q .2, q .3, q .4))
+    let p = s .pre .1 in
+    (s .pre .0, (p .2, p .3, p .4, p .5, omega (arith, p .6)))
 
 mul-at : tie.Need-mul-at
 mul-at c = search needs
@@ -40,13 +35,13 @@ unfolding measuresOf responseZ
 inner-small s =
     let a = s .args in
     let sc = product (a .key .now) (a .degree) (a .challenge .now) in
-    omega (arith, inner-bound (subtracts (getD (a .words .now) 0 0)) (a .y .now) sc (s .pre .1 .3) (product-within (a .key .now) (a .degree) (s .pre .1 .1) (a .challenge .now) (s .pre .0 .2)), length-product (a .key .now) (a .degree) (a .challenge .now), s .pre .0 .0)
+    omega (arith, inner-bound (subtracts (getD (a .words .now) 0 0)) (a .y .now) sc (s .pre .1 .4) (product-within (a .key .now) (a .degree) (s .pre .0 .small) (a .challenge .now) (s .pre .0 .few)), length-product (a .key .now) (a .degree) (a .challenge .now), s .pre .0 .degree)
 
 judged-requires : tie.Need-judged-requires
 judged-requires c κs =
     let m = c .before .before .before .before in
     let s = m .before .before .before .before .before .before .before .before in
-    (s .pre .0 .3, s .pre .0 .4, omega (arith, ap (λ (x : Measures). natAbs (x .inner)) (m .measured .ensures .0), inner-small s), omega (arith, s .pre .1 .5, m .measured .kept .1 .1 .1 .1 .1 .1 .0))
+    (s .pre .1 .0, s .pre .1 .1, omega (arith, ap (λ (x : Measures). natAbs (x .inner)) (m .measured .ensures .0), inner-small s), omega (arith, s .pre .1 .6, m .measured .kept .1 .1 .1 .1 .1 .1 .0))
 
 keep-all-requires : tie.Need-keep-all-requires
 keep-all-requires c κs = search needs
@@ -57,7 +52,7 @@ zero-all-requires c κs = search needs
 add-entries : tie.Need-add-entries
 add-entries c =
     let s = c .before .before .before .before .before .before .before .before .before .before .before .before .before .before .before .before .before .before .before .before .before in
-    record { fits = omega (arith, mul-le-mul {n₁ = 2 * s .args .degree} {m₁ = length (s .args .challenge .now)} {n₂ = 2048} {m₂ = 64} (omega (arith, s .pre .0 .0)) (s .pre .0 .2)) }
+    record { fits = omega (arith, mul-le-mul {n₁ = 2 * s .args .degree} {m₁ = length (s .args .challenge .now)} {n₂ = 2048} {m₂ = 64} (omega (arith, s .pre .0 .degree)) (s .pre .0 .few)) }
 
 same-length : tie.Need-same-length
 same-length c = search needs
@@ -75,8 +70,8 @@ returns c =
     let m = j .before .before .before .before .before in
     let s = m .before .before .before .before .before .before .before .before in
     let a = s .args in
-    response-left (a .degree) _ _ (a .challenge .now) _ (a .list .now) _ (a .y .now) _ _ _ _ _ (j .judged .ensures .0 ∙ ap (acceptsBy _) (m .measured .ensures .0)) (omega arith) (s .pre .1 .2) (c .before .zero-all .ensures)
-    (m .measured .kept .1 .1 .1 .1 .1 .0 ∙ s .pre .1 .4) (m .measured .ensures .1 .0) (c .before .before .before .before .keep-all .ensures) (m .measured .ensures .1 .1) (j .judged .ensures .1)
+    response-left (a .degree) _ _ (a .challenge .now) _ (a .list .now) _ (a .y .now) _ _ _ _ _ (j .judged .ensures .0 ∙ ap (acceptsBy _) (m .measured .ensures .0)) (omega arith) (s .pre .1 .3) (c .before .zero-all .ensures)
+    (m .measured .kept .1 .1 .1 .1 .1 .0 ∙ s .pre .1 .5) (m .measured .ensures .1 .0) (c .before .before .before .before .keep-all .ensures) (m .measured .ensures .1 .1) (j .judged .ensures .1)
 
 pub respond-spec : {M : Type 1} → statement M
 respond-spec =

@@ -1,7 +1,6 @@
 -- `session::Session::draw` meets its contract, refused or served. Assumes nothing.
 use borrow.Author.Needs.{needs}
 use mathlib.Core.Path.{_≡_, sym, ap, _∙_}
-use mathlib.Core.List.{List}
 use Prim.Native.Nat.{ℕ, _*_, _<_}
 use native.Mathlib.Omega.{arith}
 use lib.Dec.{lit<}
@@ -11,7 +10,7 @@ use Rattle.exponential.specs.Exponential.{expScaled}
 use Rattle.sampler.specs.Draw.{drawBits, Sampled, sampledBy}
 use Rattle.refusals.proofs.Served.{DrawServed}
 use Rattle.session.specs.declared.Session.{Session}
-use Rattle.session.specs.Calls.{Draw, DrawLeft, refusalOfDraw, bitsOfDraw, drawRefused, drawServed, drawLeft}
+use Rattle.session.specs.Calls.{Draw, refusalOfDraw, bitsOfDraw, drawRefused, drawServed, drawLeft}
 use Rattle.session.proofs.Deviation.{by-215}
 use Rattle.session.proofs.Calls.{draw-passed, served-draw-leaves, refused-draw-leaves}
 use Rattle.session.proofs.Session.draw.Statement.{statement}

@@ -56,7 +56,7 @@ passed c = respond-passed (start (c .before) .args .self) (call (start (c .befor
 respond-requires : tie.Need-respond-requires
 respond-requires c κs =
     let k = passed (c .before .before .before) in
-    ((degree-range _ (k .degree) .1, k .below, k .few, k .is-polynomial, lit< tt, k .words-enough), (k .key-both, k .key-small, k .y-both, k .y-small, k .z-both, k .list-enough))
+    (record { degree = degree-range _ (k .degree) .1; both = k .key-both; small = k .key-small; few = k .few; below = k .below }, (k .is-polynomial, lit< tt, k .words-enough, k .y-both, k .y-small, k .z-both, k .list-enough))
 
 same-length-2 : tie.Need-same-length-2
 same-length-2 c = search needs
