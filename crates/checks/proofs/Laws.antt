@@ -17,7 +17,7 @@ use Rattle.checks.specs.Checks.{among, degrees, isDegree, allBelow, unle
 pub both-true : (a b : Bool) → (a && b) ≡ true → (a ≡ true) × (b ≡ true)
 both-true a b h = and-eq-true-iff a b .0 h
 
-and-false : (a : Bool) → (a && false) ≡ false
+pub and-false : (a : Bool) → (a && false) ≡ false
 and-false true = refl
 and-false false = refl
 

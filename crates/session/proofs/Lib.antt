@@ -4,4 +4,3 @@ pub mod CallLaws
 pub mod Rendering
 pub mod SameCalls
 pub mod Demand3
-pub mod Demand3Instance

@@ -2,4 +2,3 @@ pub mod Calls
 pub mod CallLaws
 pub mod Histories
 pub mod Demand3
-pub mod Demand3Instance

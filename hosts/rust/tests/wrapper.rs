@@ -66,6 +66,23 @@ fn a_spent_draw_clears_drawn() {
 }
 
 #[test]
+fn a_response_after_a_spent_draw_is_refused() {
+    let (spent, ..) = draw(drawn_session(), u64::MAX);
+    let (refused, z, list) = respond(spent.session, &[1], &[1; 8]);
+    assert_eq!(refused.answer, Err(Refusal::NotDrawn));
+    assert_eq!(z, [5; 8]);
+    assert_eq!(list, [9; 55]);
+}
+
+#[test]
+fn the_largest_limit_is_served() {
+    let words = [u64::MAX; word_count(32 * N)];
+    let mut list = [9; list_length(32 * N)];
+    let spent = Session::open(N).unwrap().draw(32 * N, &CDT, &POLYNOMIAL, &words, &mut [1; 8], &mut list);
+    assert_eq!(spent.answer, Ok(Counts { attempts: 128, accepted: 0, entries: 5890 }));
+}
+
+#[test]
 fn a_refused_draw_hands_the_session_back() {
     let words = [0; word_count(LIMIT)];
     let mut y = [1; sample_count(N)];

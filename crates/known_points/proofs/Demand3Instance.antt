@@ -16,17 +16,18 @@ use Rattle.checks.proofs.Laws.{both-true}
 use Rattle.signed.specs.Vectors.{allWithin, squareSum, innerProduct}
 use Rattle.exponential.specs.Exponential.{factorial, entriesFrom as polynomialFrom, polynomial, sameWords, isPolynomial, reciprocal, scaled, evaluate, squared, squarings, expScaled, expWith}
 use Rattle.base_sample.specs.BaseSample.{wordsSmall, neverFalls, isCdt, atOrBelow, baseSample}
+use Rattle.known_points.specs.EvenThresholds.{thresholdsFrom, evenThresholds}
 use Rattle.attempt.specs.Attempt.{accepts, sample, bitAt, sampleAt, attemptEntries}
 use Rattle.sampler.specs.Draw.{bitsFrom, drawBits, accepted, samplesFrom, drawY, entriesFrom, drawEntries, sampledBy}
 use Rattle.challenge.specs.Challenge.{positionsBelow, ascends, isChallenge}
 use Rattle.challenge.specs.Product.{termAt, outputAt, outputsFrom, product, outputEntries, outputEntriesFrom, productEntries}
 use Rattle.response.specs.Response.{responseOf, measuresOf, coshPasses, allPass, acceptsBy, respondEntries, responseZ, responseBit, respondedBy}
 use Rattle.refusals.specs.Refusals.{openRefusal, drawRefusal, respondRefusal}
 use Rattle.session.specs.Calls.{opened, refusalOfDraw, bitsOfDraw, drawServed, drawLeft, refusalOfRespond, bitOfRespond, respondServed, respondLeft}
 use Rattle.session.specs.Histories.{draw, respond, leftBy, nextIn, entriesIn, Linked, eventOf, history}
 use Rattle.session.specs.Demand3.{NoneRefused, AllAlike, Agreeing}
-use Rattle.session.specs.Demand3Instance.{thresholdsFrom, fives, drawOver, drawing, rejecting, responding, callsOver, calls, calls′, callsRejecting, start, drawnAndAnswered, Demand3Instance}
+use Rattle.known_points.specs.Demand3Instance.{fives, drawOver, drawing, rejecting, responding, callsOver, calls, calls′, callsRejecting, start, drawnAndAnswered, Demand3Instance}
 use Rattle.session.proofs.Demand3.{demand3}
 
 -- ** Agreement where the words that differ are not read
 
@@ -67,7 +68,7 @@ tells-apart bits bits′ e = let z : _≡_ {A = ℕ} 0 1 = cc in omega arith
 
 -- what the calls do is computed
 pub demand3-instance : Demand3Instance
-unfolding callsOver callsRejecting rejecting drawing responding drawOver fives thresholdsFrom opened openRefusal leftBy drawLeft
+unfolding callsOver callsRejecting rejecting drawing responding drawOver fives evenThresholds thresholdsFrom opened openRefusal leftBy drawLeft
     drawServed refusalOfDraw drawRefusal bitsOfDraw respondLeft respondServed refusalOfRespond respondRefusal bitOfRespond Linked
     NoneRefused AllAlike Agreeing history eventOf wordsBelow unless isDegree among allBelow isCdt wordsSmall neverFalls
     isPolynomial sameWords polynomial polynomialFrom factorial isChallenge positionsBelow ascends allWithin drawBits bitsFrom
@@ -82,7 +83,7 @@ demand3-instance =
     let none-refused′ : NoneRefused start calls′ = (refl, (refl, tt)) in
     let alike : AllAlike calls calls′ = (refl, (refl, tt)) in
     let agreeing : Agreeing start calls calls′ = (
-      agree-on-first (fives 8) (replicate 32 0) (replicate 32 7) (thresholdsFrom 1 10) polynomial [] (entriesIn (leftBy start (draw (drawing 0 (pos 0) 0)))) refl,
+      agree-on-first (fives 8) (replicate 32 0) (replicate 32 7) evenThresholds polynomial [] (entriesIn (leftBy start (draw (drawing 0 (pos 0) 0)))) refl,
       (agree-on-first (0 ∷ 0 ∷ 0 ∷ []) (0 ∷ []) (7 ∷ []) [] polynomial (responding 0 (pos 0) 0 .key) (entriesIn (leftBy (nextIn (leftBy start (draw (drawing 0 (pos 0) 0)))) (respond (responding 0 (pos 0) 0)))) refl, tt),
     ) in
     let linked-rejecting : Linked start (replicate 8 (pos 0)) callsRejecting = ((λ h. refl), ((λ h. refl), tt)) in

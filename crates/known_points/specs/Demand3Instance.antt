@@ -3,21 +3,17 @@
 use mathlib.Core.Path.{_≡_}
 use mathlib.Core.Bool.{Bool, true, false}
 use mathlib.Core.List.{List, [], _∷_, _++_}
-use Prim.Native.Nat.{ℕ, zero, suc, _*_, _^_}
+use Prim.Native.Nat.{ℕ, zero, suc}
 use lib.IntN.{ℤ, pos, negsuc}
 use lib.ListN.{replicate}
 use Rattle.exponential.specs.Exponential.{polynomial}
+use Rattle.known_points.specs.EvenThresholds.{evenThresholds}
 use Rattle.session.specs.declared.Session.{Session}
 use Rattle.session.specs.Calls.{opened, Draw, Respond}
 use Rattle.session.specs.Histories.{Call, draw, respond, Linked, readList, Event, drew, answered, history}
 use Rattle.session.specs.Demand3.{NoneRefused, AllAlike, Agreeing, seen}
 
 -- ** What is lent
-
--- count thresholds, from threshold i on: the high word i * 2 ^ 40, then the low word 0
-unfoldable pub thresholdsFrom : (i count : ℕ) → List ℕ
-thresholdsFrom i zero = []
-thresholdsFrom i (suc count) = i * 2 ^ 40 ∷ 0 ∷ thresholdsFrom (suc i) count
 
 -- the words of so many attempts, each accepted with the sample 5: d is 0, the low bits are 5, the sign is 0, and u is 0
 unfoldable pub fives : (count : ℕ) → List ℕ
@@ -28,7 +24,7 @@ fives (suc count) = 0 ∷ 0 ∷ 5 ∷ 0 ∷ fives count
 
 -- a draw within 16 attempts
 unfoldable pub drawOver : (words : List ℕ) (y : List ℤ) (list : List ℕ) → Draw
-drawOver words y list = record { limit = 16; cdt = thresholdsFrom 1 10; polynomial = polynomial; words = words; y = y; list = list }
+drawOver words y list = record { limit = 16; cdt = evenThresholds; polynomial = polynomial; words = words; y = y; list = list }
 
 -- eight attempts, all accepted, and 32 words behind them that are not read
 unfoldable pub drawing : (unread : ℕ) (before : ℤ) (filler : ℕ) → Draw

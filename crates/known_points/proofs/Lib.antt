@@ -1,0 +1,2 @@
+pub mod KnownPoints
+pub mod Demand3Instance

@@ -1,0 +1,3 @@
+pub mod EvenThresholds
+pub mod KnownPoints
+pub mod Demand3Instance
