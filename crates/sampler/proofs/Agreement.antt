@@ -5,8 +5,6 @@ use mathlib.Core.List.{List, _∷_}
 use Prim.Native.Nat.{ℕ, zero, suc, _+_, _*_, _^_, _≤_}
 use native.Mathlib.Omega.{arith}
 use lib.IntN.{ℤ}
-use Rattle.arithmetic.specs.Words.{bit}
-use Rattle.read_list.specs.Entries.{entry}
 use Rattle.read_list.specs.Agreement.{Lent, Agree}
 use Rattle.read_list.proofs.Agreement.{agree-first, agree-rest, agree-tail}
 use Rattle.attempt.specs.Attempt.{bitAt, sampleAt, attemptEntries}
@@ -26,10 +24,10 @@ module _ (e : ℕ → ℕ) (a b : Lent) where
   same-from t before (suc left) zero h same = record { bits = refl; samples = refl }
   same-from t before (suc left) (suc wanted) h same =
       let one = bitAt e (a .cdt) (a .words) t in
-      let here = agree-first a b (attemptEntries t before) _ same in
-      let here-bit = same-bit a b t before (omega arith) here e in
-      let here-sample = same-sample a b t before (omega arith) here in
-      let later = same-from (suc t) (before + bit one) left (stillWanted one wanted) (omega arith) (agree-rest a b (attemptEntries t before) _ same) in
+      let here = agree-first a b (attemptEntries t _) _ same in
+      let here-bit = same-bit a b t _ (omega arith) here e in
+      let here-sample = same-sample a b t _ (omega arith) here in
+      let later = same-from (suc t) _ left (stillWanted one wanted) (omega arith) (agree-rest a b (attemptEntries t _) _ same) in
       record {
         bits = ap₂ _∷_ here-bit (later .bits ∙ ap (λ (x : Bool). bitsFrom (bitAt e (b .cdt) (b .words)) (suc t) left (stillWanted x wanted)) here-bit);
         samples = ap₂ (λ (x : ℤ) (xs : List ℤ). cond one (x ∷ xs) xs) here-sample (later .samples);
@@ -39,7 +37,7 @@ module _ (e : ℕ → ℕ) (a b : Lent) where
 module _ (e : ℕ → ℕ) (a b : Lent) (n limit want : ℕ) (h : 4 * limit ≤ 2 ^ 24) (same : Agree a b (drawEntries n (drawBits e (a .cdt) (a .words) limit want))) where
   whole : SameFrom (bitAt e (a .cdt) (a .words)) (bitAt e (b .cdt) (b .words)) (sampleAt (a .cdt) (a .words)) (sampleAt (b .cdt) (b .words)) 0 limit want
   unfolding drawEntries drawBits
-  whole = same-from e a b 0 0 limit want (omega arith) (agree-tail a b (entry 1 n) _ same)
+  whole = same-from e a b 0 0 limit want (omega arith) (agree-tail a b _ _ same)
 
   pub same-bits : drawBits e (a .cdt) (a .words) limit want ≡ drawBits e (b .cdt) (b .words) limit want
   unfolding drawBits

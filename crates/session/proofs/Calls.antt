@@ -7,7 +7,6 @@ use native.Mathlib.Nat.{le-trans}
 use native.Mathlib.Omega.{arith}
 use lib.ListN.{length}
 use borrow.Author.Tests.{eq-eqb, ne-eqb}
-use Rattle.exponential.specs.Exponential.{expWith, divisor}
 use Rattle.read_list.specs.Entries.{filledPart}
 use Rattle.read_list.proofs.Laws.{filled-written}
 use Rattle.sampler.specs.Draw.{drawEntries, sampledBy}
@@ -50,7 +49,7 @@ module _ (s : Session) (d : Draw) where
 
   pub draw-entries-few : length (drawEntries (s .degree) (bitsOfDraw s d)) ≤ 46 * d .limit + 2
   unfolding bitsOfDraw
-  draw-entries-few = draw-entries-at-most (expWith (d .polynomial) divisor) (d .cdt) (d .words) (s .degree) (d .limit) (2 * s .degree)
+  draw-entries-few = draw-entries-at-most _ (d .cdt) (d .words) (s .degree) (d .limit) (2 * s .degree)
 
   pub draw-entries-fit : refusalOfDraw s d ≡ 0 → length (drawEntries (s .degree) (bitsOfDraw s d)) ≤ length (d .list)
   draw-entries-fit h = le-trans draw-entries-few (draw-passed h .list-enough)

@@ -4,7 +4,6 @@ use mathlib.Core.Bool.{true}
 use Prim.Native.Nat.{_*_, _^_, _≤_}
 use native.Mathlib.Omega.{arith}
 use Rattle.checks.proofs.Laws.{degree-range}
-use Rattle.exponential.specs.Exponential.{expWith, divisor}
 use Rattle.read_list.specs.Agreement.{Agree}
 use Rattle.sampler.specs.Draw.{drawY, drawEntries, sampledBy}
 use Rattle.sampler.proofs.Agreement.{same-bits, same-y}
@@ -39,11 +38,11 @@ module _ (s : Session) (d d′ : Draw) (served : refusalOfDraw s d ≡ 0) (serve
 
   bits-same : bitsOfDraw s d ≡ bitsOfDraw s d′
   unfolding bitsOfDraw
-  bits-same = same-bits (expWith (d .polynomial) divisor) (lent (draw d)) (lent (draw d′)) (s .degree) (d .limit) (2 * s .degree) limit-small same ∙ rw (draw-tables, limits)
+  bits-same = same-bits _ (lent (draw d)) (lent (draw d′)) (s .degree) (d .limit) (2 * s .degree) limit-small same ∙ rw (draw-tables, limits)
 
   samples-same : drawY (d .cdt) (d .words) (2 * s .degree) (bitsOfDraw s d) ≡ drawY (d′ .cdt) (d′ .words) (2 * s .degree) (bitsOfDraw s d′)
   unfolding bitsOfDraw
-  samples-same = same-y (expWith (d .polynomial) divisor) (lent (draw d)) (lent (draw d′)) (s .degree) (d .limit) (2 * s .degree) limit-small same ∙ rw (draw-tables, limits)
+  samples-same = same-y _ (lent (draw d)) (lent (draw d′)) (s .degree) (d .limit) (2 * s .degree) limit-small same ∙ rw (draw-tables, limits)
 
   drawn-same : drawLeft s d .drawn ≡ drawLeft s d′ .drawn
   unfolding drawServed sampledBy
@@ -75,7 +74,7 @@ module _ (s : Session) (r r′ : Respond) (served : refusalOfRespond s r ≡ 0) 
   bit-same : bitOfRespond s r ≡ bitOfRespond s r′
   unfolding bitOfRespond
   bit-same =
-      same-bit (lent (respond r)) (lent (respond r′)) (s .degree) (bitOfRespond s r) (r .challenge) degree-small same (expWith (r .polynomial) divisor) (r .y)
+      same-bit (lent (respond r)) (lent (respond r′)) (s .degree) (bitOfRespond s r) (r .challenge) degree-small same _ (r .y)
       ∙ rw (respond-tables, challenges, ys)
 
   z-same : zOfRespond s r ≡ zOfRespond s r′
