@@ -58,7 +58,7 @@ sub-result : tie.Need-sub-result
 sub-result c =
     let v = c .before .before .listed-value2 in
     let s = c .before .before .before .before .before .before in
-    negated-fits (v .result) (record { sfits = v .ok }) (subst (λ (r : ℤ). natAbs r ≤ 7) (sym (v .ensures .0)) (within-at 7 (s .args .key .now) (s .pre .1) (s .args .base + (s .args .i + s .args .n - s .args .c))))
+    negated-fits (v .result) (record { sfits = v .ok }) (subst (λ (r : ℤ). natAbs r ≤ 7) (sym (v .ensures .0)) (within-at 7 (s .args .key .now) (s .pre .1) _))
 
 same-length-2 : tie.Need-same-length-2
 same-length-2 c = search needs
