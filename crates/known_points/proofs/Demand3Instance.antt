@@ -21,7 +21,8 @@ use Rattle.attempt.specs.Attempt.{accepts, sample, bitAt, sampleAt, attemptEntr
 use Rattle.sampler.specs.Draw.{bitsFrom, drawBits, accepted, samplesFrom, drawY, entriesFrom, drawEntries, sampledBy}
 use Rattle.challenge.specs.Challenge.{positionsBelow, ascends, isChallenge}
 use Rattle.challenge.specs.Product.{termAt, outputAt, outputsFrom, product, outputEntries, outputEntriesFrom, productEntries}
-use Rattle.response.specs.Response.{responseOf, measuresOf, coshPasses, allPass, acceptsBy, respondEntries, responseZ, responseBit, respondedBy}
+use Rattle.acceptance.specs.Acceptance.{coshPasses, allPass, acceptsBy, acceptanceEntries}
+use Rattle.response.specs.Response.{responseOf, measuresOf, respondEntries, responseZ, responseBit, respondedBy}
 use Rattle.refusals.specs.Refusals.{openRefusal, drawRefusal, respondRefusal}
 use Rattle.session.specs.Calls.{opened, refusalOfDraw, bitsOfDraw, drawServed, drawLeft, refusalOfRespond, bitOfRespond, respondServed, respondLeft}
 use Rattle.session.specs.Histories.{draw, respond, leftBy, nextIn, entriesIn, Linked, eventOf, history}
@@ -74,7 +75,7 @@ unfolding callsOver callsRejecting rejecting drawing responding drawOver fives e
     isPolynomial sameWords polynomial polynomialFrom factorial isChallenge positionsBelow ascends allWithin drawBits bitsFrom
     bitAt accepts sampleAt sample baseSample atOrBelow expWith expScaled reciprocal scaled evaluate squared squarings sampledBy
     accepted drawY samplesFrom drawEntries entriesFrom attemptEntries placesUp placesDown filledPart respondedBy responseBit
-    responseZ responseOf measuresOf acceptsBy allPass coshPasses squareSum innerProduct product outputsFrom outputAt termAt respondEntries
+    responseZ responseOf measuresOf acceptsBy allPass coshPasses squareSum innerProduct product outputsFrom outputAt termAt respondEntries acceptanceEntries
     productEntries outputEntriesFrom outputEntries
 demand3-instance =
     let linked : Linked start (replicate 8 (pos 0)) calls = ((λ h. refl), ((λ h. refl), tt)) in

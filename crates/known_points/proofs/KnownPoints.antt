@@ -18,7 +18,8 @@ use Rattle.known_points.specs.EvenThresholds.{thresholdsFrom, evenThresh
 use Rattle.base_sample.proofs.BaseSampleLaws.{base-sample-exactly, base-sample-rises}
 use Rattle.attempt.specs.Attempt.{accepts, sample, bitAt, sampleAt}
 use Rattle.challenge.specs.Product.{termAt, outputAt, outputsFrom, product}
-use Rattle.response.specs.Response.{responseOf, responseZ, measuresOf, coshPasses, allPass, acceptsBy, responseBit}
+use Rattle.acceptance.specs.Acceptance.{coshPasses, allPass, acceptsBy}
+use Rattle.response.specs.Response.{responseOf, responseZ, measuresOf, responseBit}
 use Rattle.known_points.specs.KnownPoints.{e, oneHighFrom, oneHigh, KnownPoints}
 
 -- ** Words

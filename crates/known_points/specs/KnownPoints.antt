@@ -13,7 +13,8 @@ use Rattle.base_sample.specs.BaseSample.{isCdt, baseSample}
 use Rattle.known_points.specs.EvenThresholds.{evenThresholds}
 use Rattle.attempt.specs.Attempt.{size, exponent, drawAt, lowBitsAt, negativeAt, bitAt, sampleAt}
 use Rattle.challenge.specs.Product.{product}
-use Rattle.response.specs.Response.{subtracts, responseZ, coshPasses, responseBit}
+use Rattle.acceptance.specs.Acceptance.{coshPasses}
+use Rattle.response.specs.Response.{subtracts, responseZ, responseBit}
 
 -- ** What the points are about
 

@@ -1,4 +1,4 @@
 pub mod Passes
 pub mod RespondTells
-pub mod Judging
+pub mod Left
 pub mod Agreement

@@ -1,11 +1,10 @@
 -- What the entries of a response tell: how many they are, and the degree, the bit and the challenge. Assumes nothing.
 use mathlib.Core.Path.{_≡_, refl, sym, ap, _∙_}
 use mathlib.Core.Bool.{Bool, true}
-use mathlib.Core.List.{List, [], _∷_, _++_, append-assoc, head-eq-of-cons-eq, tail-eq-of-cons-eq}
+use mathlib.Core.List.{List, _++_, append-assoc, head-eq-of-cons-eq, tail-eq-of-cons-eq}
 use Prim.Native.Nat.{ℕ, _+_, _*_, _≤_}
 use native.Mathlib.Omega.{arith}
 use lib.ListN.{length, getD, length-append}
-use Rattle.arithmetic.specs.Words.{bit}
 use Rattle.arithmetic.proofs.Bits.{bit-injective}
 use Rattle.read_list.specs.Entries.{entry, placesUp, placesDown}
 use Rattle.read_list.proofs.Parts.{parts-of-one-length, parts-by-kind}
@@ -13,16 +12,17 @@ use Rattle.challenge.specs.Challenge.{positionsBelow}
 use Rattle.challenge.specs.Product.{productEntries}
 use Rattle.challenge.proofs.ProductLaws.{length-productEntries}
 use Rattle.challenge.proofs.ProductTells.{product-entries-from-8, product-tells}
+use Rattle.acceptance.specs.Acceptance.{acceptanceEntries}
 use Rattle.response.specs.Response.{respondEntries}
 
 -- ** How many they are
 
 -- what a response lists after its product: its words, the polynomial table twice, and its bit
 testEntries : Bool → List ℕ
-testEntries accepted = placesUp 2 0 3 ++ (placesDown 4 21 ++ (placesDown 4 21 ++ (entry 9 (bit accepted) ∷ [])))
+testEntries accepted = placesUp 2 0 3 ++ acceptanceEntries accepted
 
 length-testEntries : (accepted : Bool) → length (testEntries accepted) ≡ 46
-unfolding testEntries placesUp placesDown
+unfolding testEntries acceptanceEntries placesUp placesDown
 length-testEntries accepted = refl
 
 pub length-respondEntries : (n : ℕ) (accepted : Bool) (challenge : List ℕ) → length (respondEntries n accepted challenge) ≡ 2 * n * length challenge + 47
@@ -33,7 +33,7 @@ length-respondEntries n accepted challenge =
 -- ** What they tell
 
 test-entries-tell : (b b′ : Bool) (rest rest′ : List ℕ) → testEntries b ++ rest ≡ testEntries b′ ++ rest′ → (b ≡ b′) × (rest ≡ rest′)
-unfolding testEntries placesUp placesDown
+unfolding testEntries acceptanceEntries placesUp placesDown
 test-entries-tell b b′ rest rest′ h =
     let parts = parts-of-one-length (testEntries b) (testEntries b′) rest rest′ refl h in
     let last = ap (λ (l : List ℕ). getD l 45 0) (parts .0) in

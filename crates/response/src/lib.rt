@@ -1,22 +1,18 @@
-// The response of document 01. Nothing branches on a word, a key value or y; the four tests are joined into one bit.
+// The response of document 01. Nothing branches on a word, a key value or y.
 ghost use mathlib.Core.Path.{_≡_};
 ghost use mathlib.Core.Bool.{true};
-ghost use mathlib.Core.List.{[], _∷_, _++_};
+ghost use mathlib.Core.List.{_∷_, _++_};
 ghost use Prim.Native.Nat.{_+_, _*_, _^_, _≤_, _<_};
 ghost use lib.ListN.{length, getD};
 ghost use lib.Seq.{sets};
 ghost use lib.IntN.{natAbs, _+ℤ_, _*ℤ_};
 ghost use Rattle.arithmetic.specs.Words.{bit};
-ghost use Rattle.read_list.specs.Entries.{entry, placesUp, placesDown};
+ghost use Rattle.read_list.specs.Entries.{entry, placesUp};
 ghost use Rattle.signed.specs.Vectors.{allWithin, squareSum, innerProduct};
 ghost use Rattle.exponential.specs.Exponential.{polynomial, expScaled, limit};
 ghost use Rattle.challenge.specs.Product.{product, Factors, productEntries};
-ghost use Rattle.response.specs.Response.{subtracts, responseOf, coshPasses, allPass, measuresOf, acceptsBy, responseZ, responseBit, respondedBy};
-
-// The most that A may be, and the most that Z may be.
-const SQUARES_LIMIT: u64 = 46225;
-
-const NORM_LIMIT: u64 = 165688384;
+ghost use Rattle.response.specs.Response.{subtracts, responseOf, measuresOf, responseZ, responseBit, respondedBy};
+use acceptance::Measures;
 
 // The answer of a response: its bit, and the entries listed.
 pub struct Answer {
@@ -35,15 +31,6 @@ pub struct ResponseWords {
 pub struct Sums {
     pub norm: u64,
     pub inner: i64,
-}
-
-// What the bit of a response hangs on: the sums A, Z and I, and two words.
-pub struct Measures {
-    pub squares: u64,
-    pub norm: u64,
-    pub inner: i64,
-    pub second: u64,
-    pub third: u64,
 }
 
 // The words of a response, listed from the index `at` of a list on.
@@ -90,27 +77,6 @@ fn add_product(word: u64, y: &[i32], z: &mut [i32]) -> Sums
     Sums { norm, inner }
 }
 
-// The cosh test: 62 of a word, times 2^62 + f, is below e times 2^63.
-fn passes_cosh(e: u64, word: u64) -> bool
-    requires { ⌜ e ≤ 2 ^ 62 ⌝ }
-    ensures { λ r. ⌜ r ≡ coshPasses e word ⌝ }
-{
-    let f = arithmetic::square_shift62(e);
-    let left = arithmetic::product(arithmetic::low62(word), 0x4000_0000_0000_0000 + f);
-    let right = arithmetic::product(e, 0x8000_0000_0000_0000);
-    arithmetic::less(left, right) == 1
-}
-
-// The four tests of a response, joined without a branch.
-fn all_pass(m: Measures, e1: u64, e2: u64) -> bool
-    requires { ⌜ e2 ≤ 2 ^ 62 ⌝ }
-    ensures { λ r. ⌜ r ≡ allPass m e1 e2 ⌝ }
-{
-    let second = arithmetic::low62(m.second);
-    let cosh = passes_cosh(e2, m.third);
-    (m.squares <= SQUARES_LIMIT) & ((m.norm <= NORM_LIMIT) & ((second < e1) & cosh))
-}
-
 // The challenge product, three words and the response, in the order of the list: z becomes the response, and entries are listed from the
 // start of the list on.
 fn measured(
@@ -142,21 +108,6 @@ fn measured(
     }
 }
 
-// The bit of a response. Both exponentials are always worked out. Their reads and the bit are listed from the index `at` of a list on.
-fn judged(table: &[u64], reciprocal: u64, m: Measures, list: &mut [u32], at: usize) -> bool
-    requires { ⌜ (now table ≡ polynomial) × (limit * reciprocal < 2 ^ 84) × (natAbs (m .inner) < 2 ^ 60) × (at + 43 ≤ length (now list)) ⌝ }
-    ensures { λ r. ⌜ r ≡ acceptsBy (expScaled (now (table .entry)) reciprocal) m ⌝ }
-    ensures { λ r. ⌜ now (list .exit) ≡ sets (now (list .entry)) at (placesDown 4 21 ++ (placesDown 4 21 ++ (entry 9 (bit r) ∷ []))) ⌝ }
-{
-    let first_exponent = SQUARES_LIMIT - arithmetic::smaller(m.squares, SQUARES_LIMIT);
-    let second_exponent = arithmetic::smaller(2 * signed::size_of(m.inner), exponential::LIMIT);
-    let e1 = exponential::exp_listed(table, reciprocal, first_exponent, list, at);
-    let e2 = exponential::exp_listed(table, reciprocal, second_exponent, list, at + 21);
-    let accepted = all_pass(m, e1, e2);
-    read_list::note(9, accepted as usize, list, at + 42);
-    accepted
-}
-
 // A response to a challenge. z is written where the bit is 1, else it is all zero; y becomes all zero. Entries are listed from the start
 // of the list on, and the rest of the list is unchanged.
 pub fn respond(
@@ -176,7 +127,7 @@ pub fn respond(
 {
     let m = measured(degree, challenge, words, key, y, z, list);
     let at = 2 * degree * challenge.len() + 4;
-    let bit = judged(table, reciprocal, m, list, at);
+    let bit = acceptance::judged(table, reciprocal, m, list, at);
     signed::keep_all(z, bit);
     signed::zero_all(y);
     let entries = at + 43;

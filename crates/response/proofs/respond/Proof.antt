@@ -8,10 +8,11 @@ use lib.ListN.{length, getD}
 use lib.IntN.{natAbs}
 use Rattle.challenge.specs.Product.{product}
 use Rattle.challenge.proofs.ProductLaws.{length-product, product-within}
-use Rattle.response.specs.declared.Measures.{Measures}
-use Rattle.response.specs.Response.{subtracts, responseZ, measuresOf, acceptsBy, responseBit}
+use Rattle.acceptance.specs.declared.Measures.{Measures}
+use Rattle.acceptance.specs.Acceptance.{acceptsBy}
+use Rattle.response.specs.Response.{subtracts, responseZ, measuresOf, responseBit}
 use Rattle.response.proofs.Passes.{inner-bound}
-use Rattle.response.proofs.Judging.{response-left}
+use Rattle.response.proofs.Left.{response-left}
 use Rattle.response.proofs.respond.Statement.{statement}
 use Rattle.response.proofs.respond.Tie as tie
 

@@ -1,4 +1,4 @@
--- `response::judged` meets its contract: the four tests are those of the definition. Assumes nothing.
+-- `acceptance::judged` meets its contract: the four tests are those of the definition. Assumes nothing.
 use borrow.Author.Needs.{needs}
 use mathlib.Core.Path.{_≡_, ap, ap₂, _∙_}
 use Prim.Native.Nat.{ℕ, _-_, _*_, min}
@@ -8,10 +8,10 @@ use mir.Syntax.{w64}
 use mir.Val.{toZ, ofZ}
 use Rattle.signed.proofs.Signs.{fits-of-abs, read-back}
 use Rattle.exponential.specs.Exponential.{expScaled, limit}
-use Rattle.response.specs.Response.{squaresLimit, acceptsBy, allPass}
-use Rattle.response.proofs.Judging.{first-exponent, scales, bit-as-place, judging-written}
-use Rattle.response.proofs.judged.Statement.{statement}
-use Rattle.response.proofs.judged.Tie as tie
+use Rattle.acceptance.specs.Acceptance.{squaresLimit, acceptsBy, allPass}
+use Rattle.acceptance.proofs.Judging.{first-exponent, scales, bit-as-place, judging-written}
+use Rattle.acceptance.proofs.judged.Statement.{statement}
+use Rattle.acceptance.proofs.judged.Tie as tie
 
 smaller-requires : tie.Need-smaller-requires
 smaller-requires c κs = search needs

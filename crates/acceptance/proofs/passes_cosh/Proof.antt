@@ -1,4 +1,4 @@
--- `response::passes_cosh` meets its contract: both sides are numbers of two words. Assumes nothing.
+-- `acceptance::passes_cosh` meets its contract: both sides are numbers of two words. Assumes nothing.
 use borrow.Author.Needs.{needs}
 use mathlib.Core.Path.{ap, ap₂, _∙_}
 use Prim.Native.Nat.{ℕ, _+_, _*_, _/_, _^_, _≤_}
@@ -6,9 +6,9 @@ use native.Mathlib.Nat.{mul-le-mul}
 use native.Mathlib.Omega.{arith}
 use lib.Dec.{ltb, eqb}
 use Rattle.arithmetic.proofs.Bits.{bit-is-1}
-use Rattle.response.specs.Response.{coshPasses}
-use Rattle.response.proofs.passes_cosh.Statement.{statement}
-use Rattle.response.proofs.passes_cosh.Tie as tie
+use Rattle.acceptance.specs.Acceptance.{coshPasses}
+use Rattle.acceptance.proofs.passes_cosh.Statement.{statement}
+use Rattle.acceptance.proofs.passes_cosh.Tie as tie
 
 square-shift62-requires : tie.Need-square-shift62-requires
 square-shift62-requires c κs = search needs

@@ -1,8 +1,8 @@
--- `response::all_pass` meets its contract. Assumes nothing.
+-- `acceptance::all_pass` meets its contract. Assumes nothing.
 use borrow.Author.Needs.{needs}
-use Rattle.response.specs.Response.{allPass}
-use Rattle.response.proofs.all_pass.Statement.{statement}
-use Rattle.response.proofs.all_pass.Tie as tie
+use Rattle.acceptance.specs.Acceptance.{allPass}
+use Rattle.acceptance.proofs.all_pass.Statement.{statement}
+use Rattle.acceptance.proofs.all_pass.Tie as tie
 
 low62-requires : tie.Need-low62-requires
 low62-requires c κs = search needs
