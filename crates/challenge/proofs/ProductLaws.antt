@@ -50,7 +50,7 @@ module _ (key : List ℤ) (n : ℕ) (h : allWithin 7 key ≡ true) where
   output-within base i [] = omega arith
   output-within base i (c ∷ challenge) = omega (arith, abs-add (termAt key n base i c) (outputAt key n base i challenge), term-within key n base i c 7 h, output-within base i challenge)
 
-  pub outputs-within : (base : ℕ) (challenge : List ℕ) → length challenge ≤ 64 → (i count : ℕ) → allWithin 448 (outputsFrom key n base challenge i count) ≡ true
+  outputs-within : (base : ℕ) (challenge : List ℕ) → length challenge ≤ 64 → (i count : ℕ) → allWithin 448 (outputsFrom key n base challenge i count) ≡ true
   unfolding outputsFrom
   outputs-within base challenge l i zero = within-none 448
   outputs-within base challenge l i (suc count) = within-more 448 (outputAt key n base i challenge) (outputsFrom key n base challenge (suc i) count) (omega (arith, output-within base i challenge)) (outputs-within base challenge l (suc i) count)
@@ -61,7 +61,7 @@ module _ (key : List ℤ) (n : ℕ) (h : allWithin 7 key ≡ true) where
 
 -- ** Lengths, and the size of a half
 
-pub length-outputsFrom : (key : List ℤ) (n base : ℕ) (challenge : List ℕ) (i count : ℕ) → length (outputsFrom key n base challenge i count) ≡ count
+length-outputsFrom : (key : List ℤ) (n base : ℕ) (challenge : List ℕ) (i count : ℕ) → length (outputsFrom key n base challenge i count) ≡ count
 unfolding outputsFrom
 length-outputsFrom key n base challenge i zero = refl
 length-outputsFrom key n base challenge i (suc count) = ap suc (length-outputsFrom key n base challenge (suc i) count)

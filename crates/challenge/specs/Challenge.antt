@@ -6,7 +6,7 @@ use lib.Dec.{leb, ltb}
 use lib.ListN.{length, getD}
 use Rattle.checks.specs.Checks.{allBelow}
 
--- whether a challenge may have so many positions at most: 64, and n
+-- whether so many positions are not too many: at most 64, and at most n
 abbrev pub lengthFits : (n count : ℕ) → Bool
 lengthFits n count = leb count 64 && leb count n
 

@@ -14,7 +14,7 @@ use Rattle.challenge.proofs.Agreement.{same-product}
 use Rattle.response.specs.Response.{respondEntries, responseZ, measuresOf, responseBit}
 
 module _ (a b : Lent) (n : ℕ) (accepted : Bool) (challenge : List ℕ) (h : n ≤ 1024) (same : Agree a b (respondEntries n accepted challenge)) where
-  pub same-products : product (a .key) n challenge ≡ product (b .key) n challenge
+  same-products : product (a .key) n challenge ≡ product (b .key) n challenge
   unfolding respondEntries
   same-products = same-product a b n challenge h (agree-first a b (productEntries n challenge) _ (agree-tail a b (entry 7 n) _ same))
 

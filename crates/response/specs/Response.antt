@@ -6,7 +6,6 @@ use lib.Dec.{eqb}
 use lib.ListN.{length, getD, replicate}
 use lib.Seq.{sets}
 use lib.IntN.{ℤ, pos, negℤ, _+ℤ_}
-use Rattle.arithmetic.specs.Words.{bit}
 use Rattle.read_list.specs.Entries.{entry, placesUp}
 use Rattle.signed.specs.Vectors.{squareSum, innerProduct}
 use Rattle.challenge.specs.Product.{productEntries}

@@ -60,7 +60,7 @@ module _ (s : Session) (d : Draw) where
       ap (λ (l : DrawLeft). filledPart (l .list) (l .drawn .answer .entries)) (served-draw-leaves h)
       ∙ filled-written (d .list) (drawEntries (s .degree) (bitsOfDraw s d)) (draw-entries-fit h)
 
-  pub refused-draw-entries : (refusalOfDraw s d ≡ 0 → ⊥) → entriesIn (leftBy s (draw d)) ≡ []
+  refused-draw-entries : (refusalOfDraw s d ≡ 0 → ⊥) → entriesIn (leftBy s (draw d)) ≡ []
   unfolding leftBy drawRefused
   refused-draw-entries h = ap (λ (l : DrawLeft). filledPart (l .list) (l .drawn .answer .entries)) (refused-draw-leaves h) ∙ filled-written (d .list) [] (omega arith)
 
@@ -98,7 +98,7 @@ module _ (s : Session) (r : Respond) where
       ap (λ (l : RespondLeft). filledPart (l .list) (l .responded .answer .entries)) (served-respond-leaves h)
       ∙ filled-written (r .list) (respondEntries (s .degree) (bitOfRespond s r) (r .challenge)) (respond-entries-fit h)
 
-  pub refused-respond-entries : (refusalOfRespond s r ≡ 0 → ⊥) → entriesIn (leftBy s (respond r)) ≡ []
+  refused-respond-entries : (refusalOfRespond s r ≡ 0 → ⊥) → entriesIn (leftBy s (respond r)) ≡ []
   unfolding leftBy respondRefused
   refused-respond-entries h = ap (λ (l : RespondLeft). filledPart (l .list) (l .responded .answer .entries)) (refused-respond-leaves h) ∙ filled-written (r .list) [] (omega arith)
 

@@ -1,4 +1,4 @@
--- Demand 3: what a read list tells, and what it hides nothing of. Assumes nothing.
+-- Demand 3: a read list tells the history and no more, and leaves out no place that an answer hangs on. Assumes nothing.
 use mathlib.Core.Path.{_≡_, refl, sym, ap, ap₂, _∙_, subst}
 use mathlib.Core.Bool.{true, false, false≢true}
 use mathlib.Core.List.{List, [], _∷_, _++_}
@@ -19,7 +19,7 @@ unfolding Linked
 linked-on s y c calls h linked = rw h at (linked .1)
 
 -- from one session; where y is drawn in it, both lists start from the same y
-pub same-lists : (s : Session) (y y′ : List ℤ) (calls calls′ : List Call) → (s .drawn ≡ true → y ≡ y′) → Linked s y calls → Linked s y′ calls′
+same-lists : (s : Session) (y y′ : List ℤ) (calls calls′ : List Call) → (s .drawn ≡ true → y ≡ y′) → Linked s y calls → Linked s y′ calls′
     → NoneRefused s calls → NoneRefused s calls′ → AllAlike calls calls′ → Agreeing s calls calls′ → (seen s calls ≡ seen s calls′) × (readList s calls ≡ readList s calls′)
 unfolding Linked NoneRefused AllAlike Agreeing seen readList
 same-lists s y y′ [] [] ys l l′ h h′ alike same = (refl, refl)
