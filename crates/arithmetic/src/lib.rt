@@ -117,9 +117,11 @@ pub fn smaller(a: u64, b: u64) -> u64
     a * first + b * (1 - first)
 }
 
-// 1 where the number a is below the number b, else 0. Joined by `&` and `|`, the tests compile to no jump.
+// 1 where the number a is below the number b, else 0. The low words decide whether equal high words are enough: no jump.
 pub fn less(a: Wide, b: Wide) -> u64
+    requires { ⌜ b .high < 2 ^ 64 - 1 ⌝ }
     ensures { λ r. ⌜ r ≡ bit (ltb (value a) (value b)) ⌝ }
 {
-    ((a.high < b.high) | ((a.high == b.high) & (a.low < b.low))) as u64
+    let borrow = (a.low < b.low) as u64;
+    (a.high < b.high + borrow) as u64
 }

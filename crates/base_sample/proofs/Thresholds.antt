@@ -1,5 +1,5 @@
 -- Thresholds: their words, their order, and the number of them at or below a draw. Assumes nothing.
-use mathlib.Core.Path.{_≡_, refl, sym, ap, _∙_}
+use mathlib.Core.Path.{_≡_, refl, sym, _∙_}
 use mathlib.Core.Bool.{Bool, true, false}
 use mathlib.Core.List.{List}
 use Prim.Native.Nat.{ℕ, _+_, _-_, _*_, _^_, _<_}
@@ -20,18 +20,31 @@ unfolding wordsSmall
 word-small cdt i h e = ltb-true (getD cdt i 0) (2 ^ 62) (all-at (λ (j : ℕ). ltb (getD cdt j 0) (2 ^ 62)) i 20 h e)
 
 -- numbers with low digits below 2 ^ 62 have one order in both bases
-base-62 : (h l h′ l′ : ℕ) → l < 2 ^ 62 → l′ < 2 ^ 62 → ltb (h * 2 ^ 64 + l) (h′ * 2 ^ 64 + l′) ≡ ltb (h * 2 ^ 62 + l) (h′ * 2 ^ 62 + l′)
+pub base-62 : (h l h′ l′ : ℕ) → l < 2 ^ 62 → l′ < 2 ^ 62 → ltb (h * 2 ^ 64 + l) (h′ * 2 ^ 64 + l′) ≡ ltb (h * 2 ^ 62 + l) (h′ * 2 ^ 62 + l′)
 base-62 h l h′ l′ s s′ = sym (digits-order (2 ^ 64) h l h′ l′ (omega arith) (omega arith)) ∙ digits-order (2 ^ 62) h l h′ l′ s s′
 
-not-above : (m n : ℕ) → 1 - bit (ltb n m) ≡ bit (leb m n)
-not-above m n = by (ltb n m) refl
+-- a threshold that a draw is not below is at or below it
+pub not-below : (m n : ℕ) → (bit (ltb n m) ≡ 1 → ⊥) → leb m n ≡ true
+not-below m n h = by (ltb n m) refl
   where
-    by : (t : Bool) → ltb n m ≡ t → 1 - bit t ≡ bit (leb m n)
-    by true e = rw (lt-leb m n (ltb-true n m e))
-    by false e = rw (le-leb m n (ltb-false n m e))
+    by : (t : Bool) → ltb n m ≡ t → leb m n ≡ true
+    by true e = absurd (h (rw e))
+    by false e = le-leb m n (ltb-false n m e)
 
-pub at-or-below : (h l h′ l′ : ℕ) → l < 2 ^ 62 → l′ < 2 ^ 62 → 1 - bit (ltb (h′ * 2 ^ 64 + l′) (h * 2 ^ 64 + l)) ≡ bit (leb (h * 2 ^ 62 + l) (h′ * 2 ^ 62 + l′))
-at-or-below h l h′ l′ s s′ = ap (λ (t : Bool). 1 - bit t) (base-62 h′ l′ h l s′ s) ∙ not-above (h * 2 ^ 62 + l) (h′ * 2 ^ 62 + l′)
+pub is-below : (m n : ℕ) → bit (ltb n m) ≡ 1 → leb m n ≡ false
+is-below m n h = lt-leb m n (ltb-true n m (bit-one (ltb n m) h))
+  where
+    bit-one : (t : Bool) → bit t ≡ 1 → t ≡ true
+    bit-one true e = refl
+    bit-one false e = absurd (omega arith)
+
+-- counting it: one more, less one where the draw is below it
+pub one-more : (x m n : ℕ) → x + 1 - bit (ltb n m) ≡ x + bit (leb m n)
+one-more x m n = by (ltb n m) refl
+  where
+    by : (t : Bool) → ltb n m ≡ t → x + 1 - bit t ≡ x + bit (leb m n)
+    by true e = rw (lt-leb m n (ltb-true n m e)) (omega arith)
+    by false e = rw (le-leb m n (ltb-false n m e)) (omega arith)
 
 -- ** The number at or below a draw
 

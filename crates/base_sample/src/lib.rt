@@ -2,7 +2,7 @@
 ghost use mathlib.Core.Path.{_≡_};
 ghost use mathlib.Core.Bool.{true};
 ghost use Prim.Native.Nat.{_+_, _*_, _^_, _≤_, _<_};
-ghost use lib.Dec.{leb};
+ghost use lib.Dec.{ltb};
 ghost use lib.ListN.{length, getD};
 ghost use lib.Seq.{sets};
 ghost use Rattle.arithmetic.specs.Words.{bit};
@@ -45,7 +45,7 @@ fn never_falls(cdt: &[u64]) -> bool
     while i < 9 {
         let here = threshold_at(cdt, i);
         let next = threshold_at(cdt, i + 1);
-        if at_or_below(here, next) == 0 {
+        if below(next, here) == 1 {
             return false;
         }
         i += 1;
@@ -64,12 +64,12 @@ fn threshold_at(cdt: &[u64], i: usize) -> Wide
     }
 }
 
-// 1 where the number a is at or below b, else 0: each has a low part below 2^62.
-fn at_or_below(a: Wide, b: Wide) -> u64
-    requires { ⌜ (a .low < 2 ^ 62) × (b .low < 2 ^ 62) ⌝ }
-    ensures { λ r. ⌜ r ≡ bit (leb (a .high * 2 ^ 62 + a .low) (b .high * 2 ^ 62 + b .low)) ⌝ }
+// 1 where the number a is below b, else 0: numbers of base 2^62.
+fn below(a: Wide, b: Wide) -> u64
+    requires { ⌜ (a .low < 2 ^ 62) × (b .high < 2 ^ 62) × (b .low < 2 ^ 62) ⌝ }
+    ensures { λ r. ⌜ r ≡ bit (ltb (a .high * 2 ^ 62 + a .low) (b .high * 2 ^ 62 + b .low)) ⌝ }
 {
-    1 - arithmetic::less(b, a)
+    arithmetic::less(a, b)
 }
 
 // The base sample of a draw. All twenty words are read, in order, and listed from the index `at` of a list on.
@@ -84,7 +84,7 @@ pub fn scan(cdt: &[u64], draw: Wide, list: &mut [u32], at: usize) -> u64
         let here = at + place;
         let high = read_list::listed_word(cdt, 3, place, list, here);
         let low = read_list::listed_word(cdt, 3, place + 1, list, here + 1);
-        x += at_or_below(Wide { high, low }, draw);
+        x = x + 1 - below(draw, Wide { high, low });
         i += 1;
     }
     x

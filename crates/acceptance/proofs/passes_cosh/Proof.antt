@@ -1,10 +1,10 @@
 -- `acceptance::passes_cosh` meets its contract: both sides are numbers of two words. Assumes nothing.
 use borrow.Author.Needs.{needs}
-use mathlib.Core.Path.{ap, ap₂, _∙_}
-use Prim.Native.Nat.{ℕ, _+_, _*_, _/_, _^_, _≤_}
-use native.Mathlib.Nat.{mul-le-mul}
+use mathlib.Core.Path.{_≡_, ap, ap₂, _∙_}
+use Prim.Native.Nat.{ℕ, _+_, _-_, _*_, _/_, _^_, _≤_}
+use native.Mathlib.Nat.{le-refl, le-trans, lt-of-le-of-lt, le-add-right, mul-le-mul, le-of-mul-le-mul-right}
 use native.Mathlib.Omega.{arith}
-use lib.Dec.{ltb, eqb}
+use lib.Dec.{ltb, eqb, lit≤}
 use Rattle.arithmetic.proofs.Bits.{bit-is-1}
 use Rattle.acceptance.specs.Acceptance.{coshPasses}
 use Rattle.acceptance.proofs.passes_cosh.Statement.{statement}
@@ -32,8 +32,14 @@ product-requires c κs = search needs
 product-requires-2 : tie.Need-product-requires-2
 product-requires-2 c κs = search needs
 
+-- the high word of a small number times a word is small
+high-small : (high low e word : ℕ) → high * 2 ^ 64 + low ≡ e * word → e ≤ 2 ^ 62 → word ≤ 2 ^ 64 → high ≤ 2 ^ 62
+high-small high low e word v h w = le-of-mul-le-mul-right {k = 2 ^ 64} (le-trans (le-add-right _ low) (le-trans (rw v (le-refl _)) (mul-le-mul h w))) (lit≤ tt)
+
 less-requires : tie.Need-less-requires
-less-requires c κs = search needs
+less-requires c κs =
+    let s = c .before .before .before .before in
+    lt-of-le-of-lt (high-small _ _ _ _ (c .product2 .ensures) (s .pre) (lit≤ tt)) (lit≤ tt)
 
 returns : tie.Need-returns
 unfolding coshPasses

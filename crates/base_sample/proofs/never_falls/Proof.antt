@@ -5,14 +5,13 @@ use mathlib.Core.Bool.{Bool, true}
 use mathlib.Core.List.{List}
 use Prim.Native.Nat.{ℕ, suc, _≤_, _+_, _-_, _*_, _^_}
 use native.Mathlib.Numerals.{add-one}
-use lib.Dec.{leb}
+use lib.Dec.{leb, ltb}
 use lib.ListN.{getD}
 use Rattle.arithmetic.specs.Words.{bit}
 use Rattle.checks.specs.Checks.{allBelow}
 use Rattle.checks.proofs.Laws.{all-none, all-more, all-broken, all-done}
 use Rattle.base_sample.specs.BaseSample.{threshold, neverFalls}
-use Rattle.arithmetic.proofs.Bits.{bit-zero, bit-not-zero}
-use Rattle.base_sample.proofs.Thresholds.{word-small}
+use Rattle.base_sample.proofs.Thresholds.{word-small, is-below, not-below}
 use Rattle.base_sample.proofs.never_falls.Statement.{statement}
 use Rattle.base_sample.proofs.never_falls.Tie as tie
 
@@ -37,28 +36,39 @@ add-threshold-at c = omega arith
 threshold-at-requires-2 : tie.Need-threshold-at-requires-2 Inv-loop μ-loop
 threshold-at-requires-2 c κs = (omega arith, omega arith)
 
-at-or-below-requires : tie.Need-at-or-below-requires Inv-loop μ-loop
-at-or-below-requires c κs =
+below-requires : tie.Need-below-requires Inv-loop μ-loop
+below-requires c κs =
     let s = c .before .before .before .before .before in
+    let here = c .before .threshold-at .ensures in
     let small = s .pre .1 in (
-      rw (c .before .threshold-at .ensures .1) (word-small (s .args .cdt .now) _ (omega arith) small),
       rw (c .threshold-at2 .ensures .1) (word-small (s .args .cdt .now) _ (omega arith) small),
+      rw (here .0) (word-small (s .args .cdt .now) _ (omega arith) small),
+      rw (here .1) (word-small (s .args .cdt .now) _ (omega arith) small),
     )
 
--- the comparison of a turn, as the definition has it
-compared : (cdt : List ℕ) (i h l h′ l′ r : ℕ) → h ≡ getD cdt (2 * i) 0 → l ≡ getD cdt (2 * i + 1) 0 → h′ ≡ getD cdt (2 * (i + 1)) 0 → l′ ≡ getD cdt (2 * (i + 1) + 1) 0
-    → r ≡ bit (leb (h * 2 ^ 62 + l) (h′ * 2 ^ 62 + l′)) → r ≡ bit (rises cdt i)
-compared cdt i h l h′ l′ r e₁ e₂ e₃ e₄ e = e ∙ rw (e₁, e₂, e₃, e₄, add-one i)
+-- the comparison of threshold i with the next, as the definition has it
+falls : (cdt : List ℕ) (i h l h′ l′ r : ℕ) → h ≡ getD cdt (2 * i) 0 → l ≡ getD cdt (2 * i + 1) 0 → h′ ≡ getD cdt (2 * (i + 1)) 0 → l′ ≡ getD cdt (2 * (i + 1) + 1) 0
+    → r ≡ bit (ltb (h′ * 2 ^ 62 + l′) (h * 2 ^ 62 + l)) → r ≡ bit (ltb (threshold cdt (suc i)) (threshold cdt i))
+falls cdt i h l h′ l′ r e₁ e₂ e₃ e₄ e = e ∙ rw (e₁, e₂, e₃, e₄, add-one i)
+
+module _ (c : tie.After-below Inv-loop μ-loop) where
+  abbrev here : ℕ
+  here = c .before .before .before .before .loop .i
+
+  abbrev table : List ℕ
+  table = c .before .before .before .before .before .before .args .cdt .now
+
+  compared : c .below .result ≡ bit (ltb (threshold table (suc here)) (threshold table here))
+  compared =
+      let this = c .before .before .threshold-at .ensures in
+      let next = c .before .threshold-at2 .ensures in
+      falls table here _ _ _ _ _ (this .0) (this .1) (next .0) (next .1) (c .below .ensures)
 
 returns : tie.Need-returns Inv-loop μ-loop
 unfolding neverFalls
 returns c =
-    let b = c .before .before in
-    let a = b .before in
-    let s = a .before .before .before .before in
-    let t = a .before .before .loop in
-    let e = compared (s .args .cdt .now) (t .i) _ _ _ _ _ (a .threshold-at .ensures .0) (a .threshold-at .ensures .1) (b .threshold-at2 .ensures .0) (b .threshold-at2 .ensures .1) (c .before .at-or-below .ensures) in
-    sym (all-broken (rises (s .args .cdt .now)) (t .i) 9 (a .before .loop-test .taken) (bit-zero _ (sym e ∙ c .if1 .taken)))
+    let d = c .before in
+    sym (all-broken (rises (table d)) (here d) 9 (d .before .before .before .loop-test .taken) (is-below (threshold (table d) (here d)) (threshold (table d) (suc (here d))) (sym (compared d) ∙ c .if1 .taken)))
 
 add-i : tie.Need-add-i Inv-loop μ-loop
 add-i c = omega arith
@@ -68,12 +78,8 @@ loop-less c = omega arith
 
 loop-again : tie.Need-loop-again Inv-loop μ-loop
 loop-again c =
-    let b = c .before .before in
-    let a = b .before in
-    let s = a .before .before .before .before in
-    let t = a .before .before .loop in
-    let e = compared (s .args .cdt .now) (t .i) _ _ _ _ _ (a .threshold-at .ensures .0) (a .threshold-at .ensures .1) (b .threshold-at2 .ensures .0) (b .threshold-at2 .ensures .1) (c .before .at-or-below .ensures) in
-    (omega arith, all-more (rises (s .args .cdt .now)) (t .i) (t .inv .1) (bit-not-zero _ (λ z. c .if1 .left (e ∙ z))))
+    let d = c .before in
+    (omega arith, all-more (rises (table d)) (here d) (d .before .before .before .before .loop .inv .1) (not-below (threshold (table d) (here d)) (threshold (table d) (suc (here d))) (λ z. c .if1 .left (compared d ∙ z))))
 
 returns-2 : tie.Need-returns-2 Inv-loop μ-loop
 unfolding neverFalls
@@ -82,4 +88,4 @@ returns-2 c = all-done _ _ 9 (c .before .loop .inv .0) (c .loop-test .left) (c .
 pub never-falls-spec : {M : Type 1} → statement M
 never-falls-spec =
     tie.close
-    (tie.spec Inv-loop μ-loop loop-holds threshold-at-requires add-threshold-at threshold-at-requires-2 at-or-below-requires returns add-i loop-less loop-again returns-2)
+    (tie.spec Inv-loop μ-loop loop-holds threshold-at-requires add-threshold-at threshold-at-requires-2 below-requires returns add-i loop-less loop-again returns-2)

@@ -4,15 +4,15 @@ use mathlib.Core.Path.{_≡_, refl, sym, ap, ap₂, _∙_}
 use mathlib.Core.List.{List}
 use Prim.Native.Nat.{ℕ, _≤_, _<_, _+_, _-_, _*_, _^_}
 use native.Mathlib.Omega.{arith}
-use lib.Dec.{leb}
+use lib.Dec.{ltb}
 use lib.ListN.{length, set, getD, length-set}
 use lib.Seq.{sets}
 use Rattle.arithmetic.specs.Words.{bit}
 use Rattle.read_list.specs.Entries.{entry, placesUp}
 use Rattle.read_list.proofs.Laws.{placesUp-step, placesUp-end}
-use Rattle.base_sample.specs.BaseSample.{atOrBelow, baseSample}
+use Rattle.base_sample.specs.BaseSample.{threshold, atOrBelow, baseSample}
 use Rattle.arithmetic.proofs.Bits.{bit-le}
-use Rattle.base_sample.proofs.Thresholds.{word-small, at-or-below-next}
+use Rattle.base_sample.proofs.Thresholds.{word-small, one-more, at-or-below-next}
 use Rattle.base_sample.proofs.scan.Statement.{statement}
 use Rattle.base_sample.proofs.scan.Tie as tie
 
@@ -68,18 +68,26 @@ add-listed-word-2 c = omega arith
 listed-word-requires-2 : tie.Need-listed-word-requires-2 Inv-loop μ-loop
 listed-word-requires-2 c κs = omega arith
 
-at-or-below-requires : tie.Need-at-or-below-requires Inv-loop μ-loop
-at-or-below-requires c κs =
-    let s = c .before .before .before .before .before .before .before .before .before .before .before .before in
-    (rw (c .before .before .listed-word2 .ensures .0) (word-small (s .args .cdt .now) _ (omega arith) (s .pre .1)), s .pre .2)
-
 add-x : tie.Need-add-x Inv-loop μ-loop
-add-x c =
+add-x c = omega arith
+
+below-requires : tie.Need-below-requires Inv-loop μ-loop
+below-requires c κs =
+    let b = c .before .before in
+    let a = b .before .before .before .before in
+    let s = a .before .before .before .before .before .before in
+    let small = s .pre .1 in (
+      s .pre .2,
+      rw (a .listed-word .ensures .0) (word-small (s .args .cdt .now) _ (omega arith) small),
+      rw (b .listed-word2 .ensures .0) (word-small (s .args .cdt .now) _ (omega arith) small),
+    )
+
+sub-x : tie.Need-sub-x Inv-loop μ-loop
+sub-x c =
     let b = c .before .before .before in
     let a = b .before .before .before .before in
-    let s = a .before .before .before .before .before .before .args in
-    let t = a .before .before .before .loop in
-    omega (arith, c .at-or-below .ensures, bit-le (leb (a .listed-word .result * 2 ^ 62 + b .listed-word2 .result) (s .draw .high * 2 ^ 62 + s .draw .low)), t .inv .small, t .inv .turns)
+    let d = a .before .before .before .before .before .before .args .draw in
+    omega (arith, c .below .ensures, bit-le (ltb (d .high * 2 ^ 62 + d .low) (a .listed-word .result * 2 ^ 62 + b .listed-word2 .result)))
 
 add-i : tie.Need-add-i Inv-loop μ-loop
 add-i c = omega arith
@@ -88,8 +96,8 @@ loop-less : tie.Need-loop-less Inv-loop μ-loop
 loop-less c = omega arith
 
 -- one threshold more
-counted : (cdt : List ℕ) (d x i h l r : ℕ) → x ≡ atOrBelow cdt d i → h ≡ getD cdt (2 * i) 0 → l ≡ getD cdt (2 * i + 1) 0 → r ≡ bit (leb (h * 2 ^ 62 + l) d) → x + r ≡ atOrBelow cdt d (i + 1)
-counted cdt d x i h l r ex eh el er = ap₂ (λ (m n : ℕ). m + n) ex (er ∙ rw (eh, el)) ∙ sym (at-or-below-next cdt d i)
+counted : (cdt : List ℕ) (d x i h l r : ℕ) → x ≡ atOrBelow cdt d i → h ≡ getD cdt (2 * i) 0 → l ≡ getD cdt (2 * i + 1) 0 → r ≡ bit (ltb d (h * 2 ^ 62 + l)) → x + 1 - r ≡ atOrBelow cdt d (i + 1)
+counted cdt d x i h l r ex eh el er = ap₂ (λ (m n : ℕ). m + 1 - n) ex (er ∙ rw (eh, el)) ∙ one-more (atOrBelow cdt d i) (threshold cdt i) d ∙ sym (at-or-below-next cdt d i)
 
 loop-again : tie.Need-loop-again Inv-loop μ-loop
 loop-again c =
@@ -100,11 +108,10 @@ loop-again c =
     let read = a .listed-word .ensures in
     let read2 = b .listed-word2 .ensures in
     let d = s .draw .high * 2 ^ 62 + s .draw .low in
-    let one = bit-le (leb (a .listed-word .result * 2 ^ 62 + b .listed-word2 .result) d) in
     record {
       turns = omega arith;
-      small = omega (arith, c .at-or-below .ensures, one, t .inv .small);
-      count = counted (s .cdt .now) d (t .x) (t .i) _ _ _ (t .inv .count) (read .0) (read2 .0) (c .at-or-below .ensures);
+      small = omega (arith, t .inv .small);
+      count = counted (s .cdt .now) d (t .x) (t .i) _ _ _ (t .inv .count) (read .0) (read2 .0) (c .below .ensures);
       same = rw (read2 .1, length-set, read .1, length-set) (t .inv .same);
       entries = two-more (t .list) _ _ (s .at) (t .i) (a .before .before .loop-test .taken) (read .1) (read2 .1) ∙ t .inv .entries;
     }
@@ -126,4 +133,4 @@ returns c =
 pub scan-spec : {M : Type 1} → statement M
 scan-spec =
     tie.close
-    (tie.spec Inv-loop μ-loop loop-holds mul-place add-here listed-word-requires add-listed-word add-listed-word-2 listed-word-requires-2 at-or-below-requires add-x add-i loop-less loop-again same-length returns)
+    (tie.spec Inv-loop μ-loop loop-holds mul-place add-here listed-word-requires add-listed-word add-listed-word-2 listed-word-requires-2 add-x below-requires sub-x add-i loop-less loop-again same-length returns)
