@@ -1,21 +1,23 @@
--- Laws of the challenge product: its terms, its bounds, and one position or one output more. Assumes nothing.
+-- Laws of the challenge product: its terms, its bounds, and one position, one output or one half more. Assumes nothing.
 use mathlib.Core.Path.{_≡_, refl, sym, ap, ap₂, _∙_}
 use mathlib.Core.Bool.{Bool, true, false, cond}
-use mathlib.Core.List.{List, [], _∷_, _++_}
+use mathlib.Core.List.{List, [], _∷_, _++_, append-nil}
+use mathlib.Core.Logic.{_⊎_, inl, inr, ⊎-elim}
 use Prim.Native.Nat.{ℕ, zero, suc, _+_, _-_, _*_, _≤_, _<_}
+use native.Mathlib.Nat.{zero-add, zero-mul, mul-le-mul-right}
 use native.Mathlib.Numerals.{add-one}
 use native.Mathlib.Omega.{arith}
 use lib.Dec.{leb}
-use lib.ListN.{length, getD, set, drop, length-set, length-append}
-use lib.Seq.{sets, length-sets, drop-cons, drop-length}
+use lib.ListN.{length, getD, set, drop, length-set, length-append, drop-of-length-le}
+use lib.Seq.{sets, length-sets, drop-cons, drop-length, drop-at}
 use lib.IntN.{ℤ, pos, negℤ, natAbs, _+ℤ_, +ℤ-idl, +ℤ-idr, +ℤ-assoc}
 use borrow.Author.Tests.{le-leb, lt-leb}
 use Rattle.signed.specs.Vectors.{allWithin, squareSum}
 use Rattle.signed.proofs.Signs.{abs-neg, abs-add}
-use Rattle.signed.proofs.Vectors.{within-at, within-none, within-more, within-append, squares-within, squares-append}
+use Rattle.signed.proofs.Vectors.{within-at, within-none, within-more, within-append, squares-none, squares-within, squares-append}
 use Rattle.read_list.specs.Entries.{entry}
 use Rattle.read_list.proofs.Laws.{sets-append, sets-whole}
-use Rattle.challenge.specs.Product.{indexOf, termAt, outputAt, outputsFrom, product, outputEntries, outputEntriesFrom, productEntries}
+use Rattle.challenge.specs.Product.{indexOf, termAt, outputAt, outputsFrom, product, Factors, outputEntries, outputEntriesFrom, productEntries}
 
 -- ** One term
 
@@ -236,22 +238,89 @@ unfolding productEntries
 length-productEntries n challenge =
     omega (arith, length-append (outputEntriesFrom n 0 challenge 0 n) (outputEntriesFrom n n challenge 0 n), length-outputEntriesFrom n 0 challenge 0 n, length-outputEntriesFrom n n challenge 0 n)
 
-pub product-squares : (key : List ℤ) (n : ℕ) (challenge : List ℕ) → squareSum (outputsFrom key n 0 challenge 0 n) + squareSum (outputsFrom key n n challenge 0 n) ≡ squareSum (product key n challenge)
-unfolding product
-product-squares key n challenge = sym (squares-append (outputsFrom key n 0 challenge 0 n) (outputsFrom key n n challenge 0 n))
+-- ** The product, half by half
 
-pub product-filled : (key : List ℤ) (n : ℕ) (challenge : List ℕ) (z : List ℤ) → length z ≡ 2 * n → sets (sets z 0 (outputsFrom key n 0 challenge 0 n)) n (outputsFrom key n n challenge 0 n) ≡ product key n challenge
-unfolding product
-product-filled key n challenge z h =
-    let first = outputsFrom key n 0 challenge 0 n in
-    let second = outputsFrom key n n challenge 0 n in
-    ap (λ (p : ℕ). sets (sets z 0 first) p second) (omega (arith, length-outputsFrom key n 0 challenge 0 n))
-    ∙ sym (sets-append z 0 first second)
-    ∙ sets-whole z (first ++ second) (length-product key n challenge ∙ sym h)
+-- what is left of the product and of its entries, from the half that starts at base on
+abbrev outputsLeft : (key : List ℤ) (n : ℕ) (challenge : List ℕ) (base : ℕ) → List ℤ
+outputsLeft key n challenge base = drop base (product key n challenge)
 
-pub product-written : (n : ℕ) (challenge list : List ℕ) (at : ℕ) → sets (sets list at (outputEntriesFrom n 0 challenge 0 n)) (at + n * length challenge) (outputEntriesFrom n n challenge 0 n) ≡ sets list at (productEntries n challenge)
+abbrev entriesLeft : (n : ℕ) (challenge : List ℕ) (base : ℕ) → List ℕ
+entriesLeft n challenge base = drop (base * length challenge) (productEntries n challenge)
+
+-- nothing is left behind both halves
+outputs-none : (key : List ℤ) (n : ℕ) (challenge : List ℕ) {base : ℕ} → 2 * n ≤ base → outputsLeft key n challenge base ≡ []
+outputs-none key n challenge {base = base} h = drop-of-length-le (product key n challenge) {i = base} (omega (arith, length-product key n challenge))
+
+entries-none : (n : ℕ) (challenge : List ℕ) {base : ℕ} → 2 * n ≤ base → entriesLeft n challenge base ≡ []
+entries-none n challenge {base = base} h = drop-of-length-le (productEntries n challenge) {i = base * length challenge} (omega (arith, length-productEntries n challenge, mul-le-mul-right (length challenge) h))
+
+-- before that the half at base is left, and what is behind it
+outputs-next : (key : List ℤ) (n : ℕ) (challenge : List ℕ) {base : ℕ} → (base ≡ 0) ⊎ (base ≡ n) → outputsLeft key n challenge base ≡ outputsFrom key n base challenge 0 n ++ outputsLeft key n challenge (base + n)
+unfolding product
+outputs-next key n challenge (inl e) = rw (e, zero-add n, drop-at (outputsFrom key n 0 challenge 0 n) _ n (length-outputsFrom key n 0 challenge 0 n))
+outputs-next key n challenge (inr e) = rw (e, drop-at (outputsFrom key n 0 challenge 0 n) _ n (length-outputsFrom key n 0 challenge 0 n), outputs-none key n challenge {base = n + n} (omega arith), append-nil)
+
+entries-next : (n : ℕ) (challenge : List ℕ) {base : ℕ} → (base ≡ 0) ⊎ (base ≡ n) → entriesLeft n challenge base ≡ outputEntriesFrom n base challenge 0 n ++ entriesLeft n challenge (base + n)
 unfolding productEntries
-product-written n challenge list at =
-    let first = outputEntriesFrom n 0 challenge 0 n in
-    ap (λ (m : ℕ). sets (sets list at first) (at + m) (outputEntriesFrom n n challenge 0 n)) (sym (length-outputEntriesFrom n 0 challenge 0 n))
-    ∙ sym (sets-append list at first (outputEntriesFrom n n challenge 0 n))
+entries-next n challenge (inl e) = rw (e, zero-mul, zero-add n, drop-at (outputEntriesFrom n 0 challenge 0 n) _ (n * length challenge) (length-outputEntriesFrom n 0 challenge 0 n))
+entries-next n challenge (inr e) = rw (e, drop-at (outputEntriesFrom n 0 challenge 0 n) _ (n * length challenge) (length-outputEntriesFrom n 0 challenge 0 n), entries-none n challenge {base = n + n} (omega arith), append-nil)
+
+-- a half is written, and then what is behind it
+sets-next : {A : Type 0} (list : List A) (at : ℕ) {m : ℕ} {left : List A} (half others : List A) → length half ≡ m → left ≡ half ++ others → sets (sets list at half) (at + m) others ≡ sets list at left
+sets-next list at half others h e = rw (← h, e) (sym (sets-append list at half others))
+
+-- before the half at base, and behind both: what is summed, written and listed, and what is left, are the product's
+pub record Turn (key : List ℤ) (n : ℕ) (challenge list₀ : List ℕ) (at : ℕ) (z : List ℤ) (list : List ℕ) (squares base place : ℕ) : Type 0 where
+  pub starts : base < 2 * n → (base ≡ 0) ⊎ (base ≡ n)
+  pub place-is : place ≡ at + base * length challenge
+  pub sum : squares + squareSum (outputsLeft key n challenge base) ≡ squareSum (product key n challenge)
+  pub filled : sets z base (outputsLeft key n challenge base) ≡ product key n challenge
+  pub written : sets list place (entriesLeft n challenge base) ≡ sets list₀ at (productEntries n challenge)
+
+pub turn-start : (key : List ℤ) (n : ℕ) (challenge list : List ℕ) (at : ℕ) (z : List ℤ) → length z ≡ 2 * n → Turn key n challenge list at z list 0 0 at
+turn-start key n challenge list at z h = record {
+  starts = λ _. inl refl;
+  place-is = omega arith;
+  sum = omega arith;
+  filled = sets-whole z (product key n challenge) (length-product key n challenge ∙ sym h);
+  written = rw zero-mul;
+}
+
+module _ {key : List ℤ} {n : ℕ} {challenge list₀ : List ℕ} {at : ℕ} {z : List ℤ} {list : List ℕ} {squares base place : ℕ} (t : Turn key n challenge list₀ at z list squares base place) where
+  pub turn-z-size : length z ≡ 2 * n
+  turn-z-size = simp length-sets at (ap length (t .filled)) ∙ length-product key n challenge
+
+  pub turn-list-size : length list ≡ length list₀
+  turn-list-size = simp length-sets at (ap length (t .written))
+
+  pub turn-below : base < 2 * n → base ≤ n
+  turn-below h = ⊎-elim (λ e. omega arith) (λ e. omega arith) (t .starts h)
+
+  -- the entries of the next half are among the product's
+  pub turn-room : base < 2 * n → place + n * length challenge ≤ at + 2 * n * length challenge
+  turn-room h = omega (arith, t .place-is, mul-le-mul-right (length challenge) (turn-below h))
+
+  -- the sum with another half is far below 2 ^ 64
+  pub turn-small : Factors key n challenge → (start : ℕ) {half : ℕ} → half ≡ squareSum (outputsFrom key n start challenge 0 n) → squares + half ≤ 3 * 200704 * n
+  turn-small f start e =
+      omega (arith, half-bound key n start challenge (f .small) (f .few), squares-within 448 (product key n challenge) (product-within key n (f .small) challenge (f .few)), length-product key n challenge, t .sum)
+
+  pub turn-more : {z′ : List ℤ} {list′ : List ℕ} {half : ℕ} → base < 2 * n → half ≡ squareSum (outputsFrom key n base challenge 0 n)
+      → z′ ≡ sets z base (outputsFrom key n base challenge 0 n) → list′ ≡ sets list place (outputEntriesFrom n base challenge 0 n)
+      → Turn key n challenge list₀ at z′ list′ (squares + half) (base + n) (place + n * length challenge)
+  turn-more h es ez el =
+      let outputs = outputsFrom key n base challenge 0 n in
+      let entries = outputEntriesFrom n base challenge 0 n in
+      let next = outputs-next key n challenge (t .starts h) in
+      record {
+        starts = λ g. ⊎-elim (λ e. inr (omega arith)) (λ e. inr (omega arith)) (t .starts h);
+        place-is = omega (arith, t .place-is);
+        sum = omega (arith, squares-append outputs (outputsLeft key n challenge (base + n)), ap squareSum next, t .sum);
+        filled = rw ez (sets-next z base outputs (outputsLeft key n challenge (base + n)) (length-outputsFrom key n base challenge 0 n) next ∙ t .filled);
+        written = rw el (sets-next list place entries (entriesLeft n challenge (base + n)) (length-outputEntriesFrom n base challenge 0 n) (entries-next n challenge (t .starts h)) ∙ t .written);
+      }
+
+  pub turn-end : 2 * n ≤ base → (squares ≡ squareSum (product key n challenge)) × ((z ≡ product key n challenge) × (list ≡ sets list₀ at (productEntries n challenge)))
+  turn-end h =
+      let none = outputs-none key n challenge h in
+      (omega (arith, ap squareSum none, squares-none, t .sum), (rw none at (t .filled), rw (entries-none n challenge h) at (t .written)))

@@ -138,7 +138,13 @@ pub fn product_listed(
     ensures { λ _. ⌜ now (z .exit) ≡ product (now (key .entry)) n (now (challenge .entry)) ⌝ }
     ensures { λ _. ⌜ now (list .exit) ≡ sets (now (list .entry)) at (productEntries n (now (challenge .entry))) ⌝ }
 {
-    let first = half(key, n, 0, challenge, z, list, at);
-    let second = half(key, n, n, challenge, z, list, at + n * challenge.len());
-    first + second
+    let mut squares: u64 = 0;
+    let mut base: usize = 0;
+    let mut place = at;
+    while base < 2 * n {
+        squares += half(key, n, base, challenge, z, list, place);
+        place += n * challenge.len();
+        base += n;
+    }
+    squares
 }
