@@ -89,6 +89,20 @@ fn evaluate_listed(table: &[u64], v: u64, list: &mut [u32], at: usize) -> u64
     a
 }
 
+// The same over a table that nobody lends: nothing is listed, and a constant table becomes constants of the machine code.
+fn evaluate_unlisted(table: &[u64], v: u64) -> u64
+    requires { ⌜ (now table ≡ polynomial) × (v < 2 ^ 62) ⌝ }
+    ensures { λ r. ⌜ (r ≡ evaluate (now (table .entry)) v 20 (getD (now (table .entry)) 20 0)) × (r ≤ 2 ^ 62) ⌝ }
+{
+    let mut a: u64 = 0;
+    let mut j = table.len();
+    while 0 < j {
+        j -= 1;
+        a = next_value(table[j], a, v);
+    }
+    a
+}
+
 // One squaring.
 fn square(a: u64) -> u64
     requires { ⌜ a ≤ 2 ^ 62 ⌝ }
@@ -130,6 +144,7 @@ pub fn exp_or_refusal(n: u64) -> u64
         return REFUSAL_12;
     }
     let table = POLYNOMIAL;
-    let mut list = [0u32; 21];
-    exp_listed(&table, RECIPROCAL_215, n, &mut list, 0)
+    let v = arithmetic::mul_shift22(n, RECIPROCAL_215);
+    let a = evaluate_unlisted(&table, v);
+    power64(a)
 }

@@ -1,0 +1,52 @@
+-- `exponential::evaluate_unlisted` meets its contract. The loop's invariant: the evaluation is under way. Assumes nothing.
+use native.Mathlib.Omega.{arith}
+use Rattle.exponential.proofs.Steps.{table-length, Evaluating, evaluating-starts, evaluating-asks, evaluating-goes-on, evaluating-ends}
+use Rattle.exponential.proofs.evaluate_unlisted.Statement.{statement}
+use Rattle.exponential.proofs.evaluate_unlisted.Tie as tie
+
+abbrev Inv-loop : tie.InvT-loop
+Inv-loop table v a₀ j₀ a j = Evaluating table v a j
+
+abbrev μ-loop : tie.MeasureT-loop
+μ-loop table v a₀ j₀ a j = j
+
+loop-holds : tie.Need-loop-holds Inv-loop μ-loop
+loop-holds c = let s = c .before in rw (table-length (s .args .table .now) (s .pre .0)) (evaluating-starts (s .args .table .now) (s .args .v))
+
+sub-j : tie.Need-sub-j Inv-loop μ-loop
+sub-j c = omega arith
+
+mul-next-value : tie.Need-mul-next-value Inv-loop μ-loop
+mul-next-value c = record { fits = omega (arith, c .before .loop .inv .count) }
+
+shared-slice-read-next-value : tie.Need-shared-slice-read-next-value Inv-loop μ-loop
+shared-slice-read-next-value c =
+    let s = c .before .before .before .before in
+    omega (arith, table-length (s .args .table .now) (s .pre .0), c .before .before .loop .inv .count)
+
+next-value-requires : tie.Need-next-value-requires Inv-loop μ-loop
+next-value-requires c κs =
+    let s = c .before .before .before .before in
+    let t = c .before .before .loop in
+    let asks = evaluating-asks (s .args .table .now) (s .pre .0) (s .args .v) (t .a) (t .j) (c .before .loop-test .taken) (t .inv) in
+    (asks .0, asks .1, s .pre .1)
+
+loop-less : tie.Need-loop-less Inv-loop μ-loop
+loop-less c = omega arith
+
+loop-again : tie.Need-loop-again Inv-loop μ-loop
+loop-again c =
+    let s = c .before .before .before .before .before in
+    let t = c .before .before .before .loop in
+    rw (c .next-value .ensures) (evaluating-goes-on (s .args .table .now) (s .pre .0) (s .args .v) (t .a) (t .j) (c .before .before .loop-test .taken) (t .inv))
+
+returns : tie.Need-returns Inv-loop μ-loop
+returns c =
+    let s = c .before .before .before .args in
+    let t = c .before .loop in
+    evaluating-ends (s .table .now) (s .v) (t .a) (t .j) (c .loop-test .left) (t .inv)
+
+pub evaluate-unlisted-spec : {M : Type 1} → statement M
+evaluate-unlisted-spec =
+    tie.close
+    (tie.spec Inv-loop μ-loop loop-holds sub-j mul-next-value shared-slice-read-next-value next-value-requires loop-less loop-again returns)
