@@ -88,10 +88,12 @@ BLISS_LAYOUT(sizeof(bliss_responded) == 32 && offsetof(bliss_responded, session)
 #undef BLISS_LAYOUT
 
 /* The lengths that calls ask for, at degree n: of the tables; of y, z and the key; for a draw with a limit of attempts; and for a
- * response to a challenge of so many positions, at most BLISS_CHALLENGE_LIMIT. */
+ * response to a challenge of so many positions, at most BLISS_CHALLENGE_LIMIT. With BLISS_CDT_215 a draw of BLISS_DRAW_LIMIT(n)
+ * attempts is spent with a chance of at most 2^-64, at every degree. */
 #define BLISS_CDT_WORDS 20
 #define BLISS_POLYNOMIAL_WORDS 21
 #define BLISS_SAMPLES(n) (2 * (size_t)(n))
+#define BLISS_DRAW_LIMIT(n) (4 * (size_t)(n) + 56)
 #define BLISS_DRAW_WORDS(limit) (4 * (size_t)(limit))
 #define BLISS_DRAW_ENTRIES(limit) (46 * (size_t)(limit) + 2)
 #define BLISS_CHALLENGE_LIMIT(n) ((size_t)(n) < 64 ? (size_t)(n) : (size_t)64)
