@@ -3,44 +3,50 @@
 //! the definition of the box.
 //!
 //! ```
-//! use bliss_box::{filled, list_length, respond_list_length, sample_count, word_count};
-//! use bliss_box::{Session, CDT, POLYNOMIAL, RESPOND_WORDS};
+//! use bliss_box::{draw_limit, word_count, Secret, Session, CDT, POLYNOMIAL, RESPOND_WORDS};
 //!
-//! const N: usize = 4;
-//! const LIMIT: usize = 62;
-//! // In earnest, fresh words from a source of random numbers, used once.
-//! let words = [0; word_count(LIMIT)];
-//! let mut y = [0; sample_count(N)];
-//! let mut list = vec![0; list_length(LIMIT)];
+//! // Making keys and challenges is the host's. A key is s1 and then s2, a challenge its positions in ascending order.
+//! let key = Secret::from(vec![1; 1024]);
+//! let challenge = [3, 141, 500];
+//! let limit = draw_limit(512);
 //!
-//! let session = Session::open(N)?;
-//! let drawn = session.draw(LIMIT, &CDT, &POLYNOMIAL, &words, &mut y, &mut list);
-//! let counts = drawn.answer?;
-//! assert!(drawn.session.is_drawn());
-//! assert_eq!(counts.accepted, sample_count(N));
-//! assert_eq!(filled(&list, counts.entries).len(), counts.entries);
-//!
-//! // Fresh words here too. The key is s1 and then s2.
-//! let words = [0; RESPOND_WORDS];
-//! let challenge = [1];
-//! let key = [1, 2, 3, 4, 0, 0, 0, 0];
-//! let mut z = [0; sample_count(N)];
-//! let mut list = vec![0; respond_list_length(N, challenge.len())];
-//! let responded = drawn.session.respond(&challenge, &POLYNOMIAL, &words, &key, &mut y, &mut z, &mut list);
-//! assert!(responded.answer?.bit);
-//! assert_eq!(z, [-4, 1, 2, 3, 0, 0, 0, 0]);
-//! # Ok::<(), bliss_box::Refusal>(())
+//! let mut session = Session::open(512)?;
+//! let z = loop {
+//!     let words = Secret::system_words(word_count(limit))?;
+//!     let drawn = session.draw_owned(limit, &CDT, &POLYNOMIAL, words);
+//!     drawn.answer?;
+//!     session = drawn.session;
+//!     if !session.is_drawn() {
+//!         continue; // spent: all but never
+//!     }
+//!     let words = Secret::system_words(RESPOND_WORDS)?;
+//!     let responded = session.respond_owned(&challenge, &POLYNOMIAL, words, &key, drawn.y);
+//!     session = responded.session;
+//!     if responded.answer?.bit {
+//!         break responded.z;
+//!     }
+//!     // Rejected: in a signature the next try has another challenge too.
+//! };
+//! assert_eq!(z.len(), 1024);
+//! # Ok::<(), Box<dyn std::error::Error>>(())
 //! ```
+//!
+//! [`Session::draw`] and [`Session::respond`] use memory that the host lends; [`Session::draw_owned`] and [`Session::respond_owned`] take
+//! words and noise by value, so that none is used twice, and wipe them.
 //!
 //! The archive is linked from the repository's `target/staticlib`, where `rt staticlib bliss_box` writes it, or from the folder
 //! that the environment variable `BLISS_BOX_LIB_DIR` names when the crate is built.
 
+mod owned;
 pub mod raw;
 mod refusal;
+mod secret;
 mod tables;
 
+pub use owned::{OwnedDraw, OwnedResponse};
 pub use refusal::Refusal;
-pub use tables::{challenge_limit, list_length, respond_list_length, sample_count, word_count};
+pub use secret::Secret;
+pub use tables::{challenge_limit, draw_limit, list_length, respond_list_length, sample_count, word_count};
 pub use tables::{CDT, POLYNOMIAL, RESPOND_WORDS};
 
 /// A degree, and whether y is drawn. A draw or a response takes the session and hands back the next one, so that none is used twice:
@@ -118,8 +124,7 @@ impl Session {
     /// Full: `y` holds the samples in order of acceptance. Spent, which is after `limit` attempts with fewer than 2n samples:
     /// `y` is all zero. The rest of `list` is unchanged. A refused draw changes neither `y` nor `list`.
     ///
-    /// With [`CDT`] an attempt is accepted with a chance of 0.678. A limit of 1,780 is spent with a chance of at most 2^-64 at
-    /// n = 512, and so is one of 62 at n = 4.
+    /// With [`CDT`] an attempt is accepted with a chance of 0.678; [`draw_limit`] gives a limit that is all but never spent.
     pub fn draw(self, limit: usize, cdt: &[u64], polynomial: &[u64], words: &[u64], y: &mut [i32], list: &mut [u32]) -> Drawn {
         // SAFETY: each pointer and length are those of one slice, so the memory is aligned and valid for as many values; an
         // empty slice's pointer dangles, and at length 0 none is read. The two buffers that are written are borrowed for this

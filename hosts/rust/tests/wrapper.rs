@@ -1,7 +1,7 @@
 //! The safe functions: what they hand back, served and refused.
 
 use bliss_box::{challenge_limit, exponential, filled, list_length, respond_list_length, sample_count, word_count};
-use bliss_box::{Counts, Outcome, Refusal, Responded, Session, CDT, POLYNOMIAL, RESPOND_WORDS};
+use bliss_box::{Counts, Outcome, Refusal, Responded, Secret, Session, CDT, POLYNOMIAL, RESPOND_WORDS};
 
 const N: usize = 4;
 const LIMIT: usize = 2 * N;
@@ -208,6 +208,71 @@ fn empty_slices_are_refused_and_not_read() {
     let empty = respond(empty.session, &[1], &[0; 3]);
     assert_eq!(empty.answer, Err(Refusal::List));
     assert!(empty.session.is_drawn());
+}
+
+/// Words that accept every sample, of sizes 0 to 255 and both signs.
+fn accepting_words() -> Vec<u64> {
+    (0..LIMIT as u64).flat_map(|t| [0, 0, 257 * (t + 1), 0]).collect()
+}
+
+#[test]
+fn owned_calls_are_the_lent_ones() {
+    let words = accepting_words();
+    let (mut y, mut list) = ([1; sample_count(N)], [9; list_length(LIMIT)]);
+    let lent = Session::open(N).unwrap().draw(LIMIT, &CDT, &POLYNOMIAL, &words, &mut y, &mut list);
+    let owned = Session::open(N).unwrap().draw_owned(LIMIT, &CDT, &POLYNOMIAL, Secret::from(words));
+    assert_eq!((owned.answer, &owned.session), (lent.answer, &lent.session));
+    assert_eq!(owned.y[..], y);
+    assert_ne!(y, [0; 8]);
+    assert_eq!(owned.list, filled(&list, owned.answer.unwrap().entries));
+
+    let key = [1, 2, 3, 4, -1, 0, 7, -7];
+    let (mut z, mut list) = ([5; sample_count(N)], [9; respond_list_length(N, 2)]);
+    let lent = lent.session.respond(&[0, 3], &POLYNOMIAL, &[0; RESPOND_WORDS], &key, &mut y, &mut z, &mut list);
+    let owned = owned.session.respond_owned(&[0, 3], &POLYNOMIAL, Secret::zeroed(RESPOND_WORDS), &key, owned.y);
+    assert_eq!((owned.answer, &owned.session), (lent.answer, &lent.session));
+    assert_eq!(owned.y[..], [0; 8]);
+    assert_eq!(owned.z, z);
+    assert_ne!(z, [0; 8]);
+    assert_eq!(owned.list, list);
+}
+
+#[test]
+fn refused_owned_calls_hand_back_session_and_noise() {
+    for (limit, refusal) in [(7, Refusal::Limit), (9, Refusal::Words), (129, Refusal::Limit), (usize::MAX, Refusal::Limit)] {
+        let refused = drawn_session().draw_owned(limit, &CDT, &POLYNOMIAL, Secret::zeroed(word_count(LIMIT)));
+        assert_eq!(refused.answer, Err(refusal));
+        assert!(refused.session.is_drawn());
+        assert_eq!((&refused.y[..], refused.list.len()), (&[0; 8][..], 0));
+    }
+    let drawn = Session::open(N).unwrap().draw_owned(LIMIT, &CDT, &POLYNOMIAL, Secret::from(accepting_words()));
+    let y = drawn.y.to_vec();
+    for challenge in [&[4][..], &[0; 65], &[]] {
+        let noise = Secret::from(y.clone());
+        let refused = drawn_session().respond_owned(challenge, &POLYNOMIAL, Secret::zeroed(RESPOND_WORDS), &[0; 8], noise);
+        assert_eq!(refused.answer, Err(Refusal::Challenge));
+        assert!(refused.session.is_drawn());
+        assert_eq!(refused.y[..], y);
+        assert_eq!((refused.z, refused.list.len()), (vec![0; 8], 0));
+    }
+}
+
+#[test]
+fn secrets_are_not_printed() {
+    let mut secret = Secret::from(vec![12345, 67890]);
+    assert_eq!(format!("{secret:?}"), "Secret(2 values)");
+    secret.wipe();
+    assert_eq!(secret[..], [0, 0]);
+}
+
+#[test]
+fn system_words_are_fresh() {
+    let mut all = Secret::system_words(1000).unwrap().to_vec();
+    all.extend_from_slice(&Secret::system_words(1000).unwrap());
+    all.sort_unstable();
+    all.dedup();
+    assert_eq!(all.len(), 2000, "2,000 words of 64 bits agree nowhere but with a chance of 2^-43");
+    assert!(Secret::system_words(0).unwrap().is_empty());
 }
 
 #[test]

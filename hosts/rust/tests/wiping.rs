@@ -1,0 +1,74 @@
+//! What is secret is all zero when its memory is given back. An allocator looks at it then.
+
+use std::alloc::{GlobalAlloc, Layout, System};
+use std::slice;
+use std::sync::atomic::{AtomicUsize, Ordering::SeqCst};
+
+use bliss_box::{sample_count, word_count, Secret, Session, CDT, POLYNOMIAL, RESPOND_WORDS};
+
+/// Blocks of this many bytes are looked at; 0 is none.
+static WATCHED: AtomicUsize = AtomicUsize::new(0);
+static ZEROED: AtomicUsize = AtomicUsize::new(0);
+static NOT_ZEROED: AtomicUsize = AtomicUsize::new(0);
+
+struct Watching;
+
+#[global_allocator]
+static ALLOCATOR: Watching = Watching;
+
+// SAFETY: memory is taken from the system's allocator and given back to it.
+unsafe impl GlobalAlloc for Watching {
+    unsafe fn alloc(&self, layout: Layout) -> *mut u8 {
+        System.alloc_zeroed(layout)
+    }
+
+    unsafe fn dealloc(&self, block: *mut u8, layout: Layout) {
+        if layout.size() == WATCHED.load(SeqCst) {
+            let bytes = slice::from_raw_parts(block, layout.size());
+            let count = if bytes.iter().all(|&byte| byte == 0) { &ZEROED } else { &NOT_ZEROED };
+            count.fetch_add(1, SeqCst);
+        }
+        System.dealloc(block, layout)
+    }
+}
+
+/// How many blocks of so many bytes are given back meanwhile: all zero, and not.
+fn given_back<T>(bytes: usize, act: impl FnOnce() -> T) -> (usize, usize) {
+    ZEROED.store(0, SeqCst);
+    NOT_ZEROED.store(0, SeqCst);
+    WATCHED.store(bytes, SeqCst);
+    let result = act();
+    WATCHED.store(0, SeqCst);
+    drop(result);
+    (ZEROED.load(SeqCst), NOT_ZEROED.load(SeqCst))
+}
+
+// One test, so that no other thread gives blocks back. The sizes are unlike those of anything else here.
+#[test]
+fn secrets_are_wiped_when_they_are_dropped() {
+    let unwiped = vec![1u64; 7777];
+    assert_eq!(given_back(8 * 7777, || drop(unwiped)), (0, 1), "the allocator sees what is not wiped");
+    let mut truncated = vec![1u64; 7777];
+    truncated.truncate(1);
+    assert_eq!(given_back(8 * 7777, || drop(Secret::from(truncated))), (1, 0), "what was cut off a vector is wiped too");
+
+    let (n, limit) = (64, 9 * 64);
+    let words = Secret::system_words(word_count(limit)).unwrap();
+    let session = Session::open(n).unwrap();
+    let mut drawn = None;
+    let counts = given_back(8 * word_count(limit), || drawn = Some(session.draw_owned(limit, &CDT, &POLYNOMIAL, words)));
+    assert_eq!(counts, (1, 0), "a draw wipes its words");
+    let drawn = drawn.unwrap();
+    assert!(drawn.y.iter().any(|&sample| sample != 0));
+    assert_eq!(given_back(4 * sample_count(n), || drop(drawn.y)), (1, 0), "noise that is not used is wiped");
+    // The response's words are 24 bytes, like much else, so these are more: a response may be lent more words than it reads.
+    let words = Secret::system_words(5 * RESPOND_WORDS).unwrap();
+    let key = Secret::zeroed(sample_count(n));
+    let y = Secret::zeroed(sample_count(n));
+    let mut responded = None;
+    let counts = given_back(8 * 5 * RESPOND_WORDS, || {
+        responded = Some(drawn.session.respond_owned(&[1], &POLYNOMIAL, words, &key, y));
+    });
+    assert_eq!(counts, (1, 0), "a response wipes its words");
+    assert!(responded.unwrap().answer.is_ok());
+}
