@@ -1,0 +1,71 @@
+//! The refusals of a draw and of a response, in document 01's order. The types of the tables hold their lengths.
+
+use bliss_box::{challenge_limit, list_length, respond_list_length, sample_count, word_count};
+use bliss_box::{Refusal, Session, POLYNOMIAL, RESPOND_WORDS};
+
+use super::draw::threshold;
+
+pub fn check_draw(
+    n: usize,
+    limit: usize,
+    cdt: &[u64; 20],
+    polynomial: &[u64; 21],
+    words: &[u64],
+    y: &[i32],
+    list: &[u32],
+) -> Result<(), Refusal> {
+    demand(is_degree(n), Refusal::Degree)?;
+    demand(y.len() == sample_count(n), Refusal::Lengths)?;
+    demand(is_cdt(cdt), Refusal::Cdt)?;
+    demand(*polynomial == POLYNOMIAL, Refusal::Polynomial)?;
+    demand((2 * n..=32 * n).contains(&limit), Refusal::Limit)?;
+    demand(words.len() >= word_count(limit), Refusal::Words)?;
+    demand(list.len() >= list_length(limit), Refusal::List)
+}
+
+#[allow(clippy::too_many_arguments)]
+pub fn check_respond(
+    session: &Session,
+    challenge: &[u32],
+    polynomial: &[u64; 21],
+    words: &[u64],
+    key: &[i32],
+    y: &[i32],
+    z: &[i32],
+    list: &[u32],
+) -> Result<(), Refusal> {
+    let n = session.degree();
+    demand(is_degree(n), Refusal::Degree)?;
+    demand([y.len(), z.len(), key.len()] == [sample_count(n); 3], Refusal::Lengths)?;
+    demand(*polynomial == POLYNOMIAL, Refusal::Polynomial)?;
+    demand(is_challenge(n, challenge), Refusal::Challenge)?;
+    demand(words.len() >= RESPOND_WORDS, Refusal::Words)?;
+    demand(list.len() >= respond_list_length(n, challenge.len()), Refusal::List)?;
+    demand(session.is_drawn(), Refusal::NotDrawn)?;
+    demand(all_within(key, 7), Refusal::Key)?;
+    demand(all_within(y, 2_815), Refusal::Y)
+}
+
+fn demand(condition: bool, refusal: Refusal) -> Result<(), Refusal> {
+    condition.then_some(()).ok_or(refusal)
+}
+
+fn is_degree(n: usize) -> bool {
+    n.is_power_of_two() && (4..=1024).contains(&n)
+}
+
+fn is_cdt(cdt: &[u64; 20]) -> bool {
+    let thresholds = || cdt.chunks_exact(2).map(threshold);
+    cdt.iter().all(|word| *word < 1 << 62) && thresholds().zip(thresholds().skip(1)).all(|(before, after)| before <= after)
+}
+
+fn is_challenge(n: usize, challenge: &[u32]) -> bool {
+    (1..=challenge_limit(n)).contains(&challenge.len())
+        && challenge.iter().all(|position| (*position as usize) < n)
+        && challenge.windows(2).all(|pair| pair[0] < pair[1])
+}
+
+/// Every value is looked at: without an early end, the compiler tests several at once.
+fn all_within(values: &[i32], bound: i32) -> bool {
+    values.iter().fold(true, |within, value| within & (-bound..=bound).contains(value))
+}

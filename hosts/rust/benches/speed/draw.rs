@@ -1,0 +1,78 @@
+//! Draws with the CDT for deviation 215.
+
+use bliss_box::{list_length, sample_count, word_count, Counts, Drawn, Refusal, Session, CDT, POLYNOMIAL};
+
+use crate::baseline::{self, HighWord, Product, Shifted};
+use crate::random::Random;
+use crate::rounds::{timed, Call, Side};
+
+/// What a draw is lent.
+pub struct Draw {
+    pub n: usize,
+    limit: usize,
+    cdt: [u64; 20],
+    polynomial: [u64; 21],
+    words: Vec<u64>,
+    pub y: Vec<i32>,
+    list: Vec<u32>,
+}
+
+impl Draw {
+    /// A limit of 4n, of which a draw makes about three quarters.
+    pub fn new(n: usize) -> Draw {
+        let limit = 4 * n;
+        let mut random = Random::new(n as u64);
+        Draw {
+            n,
+            limit,
+            cdt: CDT,
+            polynomial: POLYNOMIAL,
+            words: (0..word_count(limit)).map(|_| random.word()).collect(),
+            y: vec![0; sample_count(n)],
+            list: vec![0; list_length(limit)],
+        }
+    }
+
+    pub fn by_box(&mut self) -> Drawn {
+        let Draw { limit, cdt, polynomial, words, y, list, .. } = self;
+        Session::open(self.n).expect("a degree").draw(*limit, cdt, polynomial, words, y, list)
+    }
+
+    fn by_baseline<P: Product>(&mut self) -> Result<Counts, Refusal> {
+        let Draw { limit, cdt, polynomial, words, y, list, .. } = self;
+        let session = Session::open(self.n).expect("a degree");
+        baseline::draw::<P>(&session, *limit, cdt, polynomial, words, y, list)
+    }
+
+    fn timed(&mut self, side: Side) -> (f64, Counts) {
+        let (nanoseconds, answer) = match side {
+            Side::Box => timed(|| self.by_box().answer),
+            Side::Shifted => timed(|| self.by_baseline::<Shifted>()),
+            Side::HighWord => timed(|| self.by_baseline::<HighWord>()),
+        };
+        (nanoseconds, answer.expect("a draw that is served"))
+    }
+
+    pub fn attempts(&mut self) -> usize {
+        self.timed(Side::Box).1.attempts
+    }
+}
+
+impl Call for Draw {
+    type Left = (Counts, Vec<i32>, Vec<u32>);
+
+    fn name(&self) -> String {
+        format!("draw, n = {}", self.n)
+    }
+
+    fn nanoseconds(&mut self, side: Side) -> f64 {
+        self.timed(side).0
+    }
+
+    fn left(&mut self, side: Side) -> Self::Left {
+        self.y.fill(i32::MIN);
+        self.list.fill(u32::MAX);
+        let (_, counts) = self.timed(side);
+        (counts, self.y.clone(), self.list.clone())
+    }
+}

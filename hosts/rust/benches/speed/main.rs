@@ -1,0 +1,63 @@
+//! Times the exponential, draws and responses of the box against the same rules in plain Rust, in one run, and prints ratios beside
+//! their targets. Nothing fails by time; the run fails where the box and a baseline differ in what they answer or write.
+//!
+//! usage: scripts/cargo bench --bench speed
+
+mod baseline;
+mod draw;
+mod exponential;
+#[path = "../../tests/random/mod.rs"]
+#[allow(dead_code)]
+mod random;
+mod report;
+mod respond;
+mod rounds;
+
+use draw::Draw;
+use exponential::Exponentials;
+use report::Row;
+use respond::Respond;
+use rounds::{compare, Call};
+
+#[cfg(target_feature = "sse3")]
+compile_error!("the archive is built for plain x86-64, and so must the baselines be: take processor flags out of RUSTFLAGS");
+
+const DEGREES: [usize; 3] = [256, 512, 1024];
+
+/// The degree that the targets are for: BLISS-I's.
+const TARGET_DEGREE: usize = 512;
+
+const EXPONENTIAL_TARGET: f64 = 0.65;
+const DRAW_TARGET: f64 = 0.85;
+const RESPOND_TARGET: f64 = 1.0;
+
+/// The most that the time of a draw at n = 1,024 over that at n = 256 should be.
+const GROWTH_TARGET: f64 = 4.4;
+
+fn main() {
+    let mut exponentials = [Exponentials::new()];
+    let mut draws = DEGREES.map(Draw::new);
+    let mut responds = DEGREES.map(Respond::new);
+    let exponential_times = compare(&mut exponentials);
+    let draw_times = compare(&mut draws);
+    let respond_times = compare(&mut responds);
+
+    let target = |n, most| (n == TARGET_DEGREE).then_some(most);
+    let mut rows = Vec::new();
+    for (call, times) in exponentials.iter().zip(&exponential_times) {
+        let (units, target) = (exponential::VALUES, Some(EXPONENTIAL_TARGET));
+        rows.push(Row { call: call.name(), times, units, unit: "e(N)", target });
+    }
+    for (call, times) in draws.iter_mut().zip(&draw_times) {
+        let (units, target) = (call.attempts(), target(call.n, DRAW_TARGET));
+        rows.push(Row { call: call.name(), times, units, unit: "attempt", target });
+    }
+    for (call, times) in responds.iter().zip(&respond_times) {
+        let (units, target) = (call.key_reads(), target(call.degree(), RESPOND_TARGET));
+        rows.push(Row { call: call.name(), times, units, unit: "key read", target });
+    }
+    report::print(&rows);
+
+    let growth = draw_times[2].ratio_to_call(&draw_times[0]);
+    println!("\ndraw, time at n = 1024 over time at n = 256: {}", report::judged(growth, Some(GROWTH_TARGET)));
+}

@@ -1,0 +1,101 @@
+//! Calls timed in rounds. In each round the box and both baselines make every call in turn, so that drift of the machine hits all
+//! alike.
+
+use std::hint::black_box;
+use std::time::Instant;
+
+pub const ROUNDS: usize = 1_001;
+
+/// Who makes a call.
+#[derive(Clone, Copy, Debug)]
+pub enum Side {
+    /// The archive.
+    Box,
+    /// The baseline with products of 128 bits, shifted.
+    Shifted,
+    /// The baseline with high words of products.
+    HighWord,
+}
+
+const SIDES: [Side; 3] = [Side::Box, Side::Shifted, Side::HighWord];
+
+/// A call that every side can make.
+pub trait Call {
+    /// All that the call answers and writes.
+    type Left: PartialEq;
+
+    fn name(&self) -> String;
+
+    /// Makes the call. Gives its time in nanoseconds.
+    fn nanoseconds(&mut self, side: Side) -> f64;
+
+    /// Makes the call over buffers that hold something else. Gives what is left.
+    fn left(&mut self, side: Side) -> Self::Left;
+}
+
+/// The nanoseconds of some work, and what it gave.
+pub fn timed<T>(work: impl FnOnce() -> T) -> (f64, T) {
+    let start = Instant::now();
+    let result = black_box(work());
+    (start.elapsed().as_nanos() as f64, result)
+}
+
+/// The times of one call in nanoseconds: of each side, one for each round.
+#[derive(Default)]
+pub struct Times([Vec<f64>; 3]);
+
+impl Times {
+    fn of(&self, side: Side) -> &[f64] {
+        &self.0[side as usize]
+    }
+
+    /// The median time of the box.
+    pub fn median(&self) -> f64 {
+        median(self.of(Side::Box).to_vec())
+    }
+
+    /// The time of the box over that of another side.
+    pub fn ratio_to(&self, side: Side) -> f64 {
+        median_ratio(self.of(Side::Box), self.of(side))
+    }
+
+    /// The time of the box over its time of another call, which was timed in the same rounds.
+    pub fn ratio_to_call(&self, other: &Times) -> f64 {
+        median_ratio(self.of(Side::Box), other.of(Side::Box))
+    }
+}
+
+/// The median of the rounds' ratios: what slows a whole round down does not change it.
+fn median_ratio(times: &[f64], others: &[f64]) -> f64 {
+    median(times.iter().zip(others).map(|(time, other)| time / other).collect())
+}
+
+fn median(mut values: Vec<f64>) -> f64 {
+    values.sort_by(f64::total_cmp);
+    values[values.len() / 2]
+}
+
+/// Times calls, after it is seen that all sides leave the same.
+pub fn compare<C: Call>(calls: &mut [C]) -> Vec<Times> {
+    calls.iter_mut().for_each(agree);
+    let mut times: Vec<Times> = calls.iter().map(|_| Times::default()).collect();
+    for _ in 0..ROUNDS {
+        for side in SIDES {
+            for (call, times) in calls.iter_mut().zip(&mut times) {
+                times.0[side as usize].push(call.nanoseconds(side));
+            }
+        }
+    }
+    times
+}
+
+fn agree<C: Call>(call: &mut C) {
+    let left = call.left(Side::Box);
+    for side in [Side::Shifted, Side::HighWord] {
+        assert!(
+            left == call.left(side),
+            "{}: the box and the baseline {side:?} differ in what they answer or write",
+            call.name()
+        );
+    }
+}
