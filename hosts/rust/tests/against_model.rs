@@ -1,9 +1,12 @@
 //! Compares the raw surface of the archive with the model. Every draw and every respond call is compared in its answer, its
 //! session, y, z, the whole list, and in what it must leave alone: what is lent for reading, and the memory around every buffer.
+//! The last line says how many calls were compared. A run of the default length, or a longer one, fails where it misses a case or
+//! compares fewer than 100,000 calls.
 //!
-//! BLISS_CALLS is the number of single draws to compare, and of single respond calls; there is a list of calls for every 40 of
-//! them. BLISS_SEED is the seed of the first one of each, and each one after it has the next. A failure names the seed: with it
-//! and BLISS_CALLS=1 the failure comes again at once. `cargo test -- --nocapture` prints what the calls came across.
+//! BLISS_CALLS is the number of single draws to compare, and of single respond calls; the other parts of a run grow with it.
+//! BLISS_SEED is the seed of the first one of each, and each one after it has the next. A failure names the seed: with it and
+//! BLISS_CALLS=1 the failure comes again at once. A word on the command line picks the parts that have it in their names.
+//! BLISS_CASES=1 prints the cases that were met, and how often.
 
 mod archive;
 mod calls;
@@ -16,43 +19,97 @@ mod lists;
 mod model;
 mod random;
 mod responses;
+mod run;
 
-use comparison::DEFAULT_SEED;
+use std::env;
+use std::process::ExitCode;
+use std::thread;
+
+use comparison::Comparison;
 use random::Random;
+use run::DEFAULT_SEED;
 
-#[test]
-fn openings_are_the_models() {
+/// The draws and respond calls that a whole run compares, or more.
+const LEAST_CALLS: u64 = 100_000;
+
+type Part = (&'static str, fn(&Comparison));
+
+const PARTS: [Part; 14] = [
+    ("guards", lent::guards_notice_every_change),
+    ("openings", openings_are_the_models),
+    ("filled parts", filled_parts_are_the_models),
+    ("exponentials", exponentials_are_the_models),
+    ("draws", draws::draws_are_the_models),
+    ("draws spoilt in one place", draws::each_check_alone_is_the_models),
+    ("responses", responses::responses_are_the_models),
+    ("responses spoilt in one place", responses::each_check_alone_is_the_models),
+    ("responses at their limits", responses::the_limits_of_a_response_are_the_models),
+    ("responses of the greatest sums", responses::the_greatest_sums_are_the_models),
+    ("lists of calls", lists::lists_of_calls_are_the_models),
+    ("demand 3, histories", demand3::read_lists_are_equal_exactly_when_histories_are),
+    ("demand 3, agreement", demand3::what_is_not_listed_decides_nothing),
+    ("demand 3, difference", demand3::what_is_listed_can_decide),
+];
+
+fn main() -> ExitCode {
+    let words: Vec<String> = env::args().skip(1).filter(|word| !word.starts_with('-')).collect();
+    let wanted = |name: &str| words.is_empty() || words.iter().any(|word| name.contains(word.as_str()));
+    let comparison = Comparison::default();
+    if !all_pass(&comparison, PARTS.into_iter().filter(|(name, _)| wanted(name))) {
+        return ExitCode::FAILURE;
+    }
+    println!("compared: {comparison}");
+    if run::is_whole() && words.is_empty() && comparison.calls() < LEAST_CALLS {
+        eprintln!("fewer than {LEAST_CALLS} draws and respond calls were compared");
+        return ExitCode::FAILURE;
+    }
+    ExitCode::SUCCESS
+}
+
+/// Runs each part in a thread of its own. One that fails says so itself, under its name.
+fn all_pass(comparison: &Comparison, parts: impl Iterator<Item = Part>) -> bool {
+    thread::scope(|scope| {
+        let started: Vec<_> = parts
+            .map(|(name, part)| {
+                let thread = thread::Builder::new().name(name.into());
+                thread.spawn_scoped(scope, move || part(comparison)).expect("a part of the run has a thread")
+            })
+            .collect();
+        let ended: Vec<_> = started.into_iter().map(|thread| thread.join()).collect();
+        ended.iter().all(Result::is_ok)
+    })
+}
+
+fn openings_are_the_models(comparison: &Comparison) {
     for n in 0..5000 {
-        comparison::opening(n);
+        comparison.opening(n);
     }
     for shift in 0..64 {
         for n in [1 << shift, (1 << shift) + 4, (1 << shift) - 1, !0 << shift] {
-            comparison::opening(n);
+            comparison.opening(n);
         }
     }
 }
 
-#[test]
-fn filled_parts_are_the_models() {
+fn filled_parts_are_the_models(comparison: &Comparison) {
     let list: Vec<u32> = (0..100).collect();
     for length in 0..=list.len() {
         for count in (0..=length + 3).chain([1 << 32, 1 << 62, 1 << 63, usize::MAX - 1, usize::MAX]) {
-            comparison::filled(&format!("list of {length}"), &list[..length], count);
+            comparison.filled(&format!("list of {length}"), &list[..length], count);
         }
     }
 }
 
-#[test]
-fn exponentials_are_the_models() {
+fn exponentials_are_the_models(comparison: &Comparison) {
     let limit = 5_534_960;
     let mut random = Random::new(DEFAULT_SEED);
     for n in (0..1000).chain(limit - 1000..limit + 1000).chain((0..64).map(|shift| 1 << shift)).chain([u64::MAX]) {
-        comparison::exponential(n);
+        comparison.exponential(n);
     }
     for _ in 0..20_000 {
-        comparison::exponential(random.word() % (limit + 1));
+        comparison.exponential(random.word() % (limit + 1));
     }
     for _ in 0..2_000 {
-        comparison::exponential(random.word() >> random.below(64));
+        comparison.exponential(random.word() >> random.below(64));
     }
 }

@@ -1,15 +1,19 @@
 #!/bin/sh
 # Shows that the comparison of calls with the model is no empty one: the model is made wrong in one place at a time, in a scratch
-# copy of this package, and the comparison must fail. It takes some minutes.
+# copy of this package, and the comparison must fail. Each line says in what the wrong model was noticed to differ from the
+# archive. It takes about five minutes.
 #
 # usage: hosts/rust/tests/wrong_models.sh
 set -eu
 
 package=$(cd "$(dirname "$0")/.." && pwd)
+"$package/../../scripts/need" cargo cargo python3 python3
 BLISS_BOX_LIB_DIR=$(cd "$package" && cd "${BLISS_BOX_LIB_DIR:-../../target/staticlib}" && pwd)
 scratch=$(mktemp -d)
 trap 'rm -rf "$scratch"' EXIT
-cp -R "$package/Cargo.toml" "$package/Cargo.lock" "$package/build.rs" "$package/src" "$package/tests" "$scratch"
+for file in "$package"/*; do
+    [ "$file" = "$package/target" ] || cp -R "$file" "$scratch"
+done
 cd "$scratch"
 
 # Many builds that differ little, and short runs.
@@ -32,6 +36,11 @@ compare() {
     return "$status"
 }
 
+# In what the archive and the model differed.
+differences() {
+    sed -n 's/^.*, \([^,]*\): differs from the model.*/\1/p' "$scratch/log" | sort -u
+}
+
 # wrong NAME RIGHT WRONG: the text RIGHT, which the file $part of the model has exactly once, becomes WRONG.
 wrong() {
     python3 - "$package/tests/model/$part" "$scratch/tests/model/$part" "$2" "$3" <<'END'
@@ -46,22 +55,43 @@ END
     count=$((count + 1))
     if compare; then
         unnoticed=$((unnoticed + 1))
-        echo "NOT NOTICED  $1"
-    elif grep -q 'differs from the model' "$scratch/log"; then
-        echo "noticed      $1"
+        echo "NOT NOTICED: $1"
     else
-        fail "$1: it failed, but not in a comparison"
+        differing=$(differences | paste -sd , - | sed 's/,/, /g')
+        [ -n "$differing" ] || fail "$1: it failed, but not in a comparison"
+        echo "$1: noticed in $differing"
     fi
     cp "$package/tests/model/$part" "$scratch/tests/model/$part"
 }
 
+# wrong_by_values NAME RIGHT WRONG: one that must be noticed in more than the read list.
+wrong_by_values() {
+    wrong "$@"
+    differences | grep -qvxE 'the entries|the list' || fail "$1: nothing but the read list shows it"
+}
+
 compare || fail "the right model is not the archive's"
+
+# The traps of document 01. Two of them change no value: the read list alone can show them.
+part=draw.rs
+wrong 'the scan is left at the first threshold above d' 'list_attempt(&mut entries, t, samples.len());' \
+    'list_attempt(&mut entries, t, samples.len());
+     let end = entries.len() - 22;
+     entries.drain(end - 2 * (9 - attempt.x.min(9) as usize)..end);'
+wrong 'no exponential at size 0' 'list_attempt(&mut entries, t, samples.len());' \
+    'list_attempt(&mut entries, t, samples.len());
+     let end = entries.len() - 1;
+     entries.drain(end - if attempt.size() == 0 { 21 } else { 0 }..end);'
+wrong_by_values 'zero is kept with both signs' ' && !(self.size() == 0 && self.negative)' ''
+wrong_by_values 'high words alone are compared' 'threshold(cdt, i) <= d' 'threshold(cdt, i) / ONE <= d / ONE'
+part=respond.rs
+wrong_by_values 'no minus sign where a position wraps' '(i + n - c, true)' '(i + n - c, false)'
+wrong_by_values 'z is kept on bit 0' 'z: if bit {' 'z: if bit || !bit {'
 
 part=draw.rs
 
 # Base sample
 wrong 'a threshold counts only below d' 'threshold(cdt, i) <= d' 'threshold(cdt, i) < d'
-wrong 'high words alone are compared' 'threshold(cdt, i) <= d' 'threshold(cdt, i) / ONE <= d / ONE'
 wrong 'the low word is left out at equal high words' 'threshold(cdt, i) <= d' 'threshold(cdt, i) / ONE < d / ONE'
 wrong 'nine thresholds' 'for i in 0..10 {' 'for i in 0..9 {'
 
@@ -69,7 +99,6 @@ wrong 'nine thresholds' 'for i in 0..10 {' 'for i in 0..9 {'
 wrong 'b of nine bits' 'let b = words[2] % 256;' 'let b = words[2] % 512;'
 wrong 'the sign is bit 9' 'words[2] / 256 % 2' 'words[2] / 512 % 2'
 wrong 'N with 256x' 'b * (b + 512 * x)' 'b * (b + 256 * x)'
-wrong 'zero is kept with both signs' ' && !(self.size() == 0 && self.negative)' ''
 wrong 'zero is rejected with both signs' '!(self.size() == 0 && self.negative)' 'self.size() != 0'
 wrong 'x = 0 with sign 1 is rejected' '!(self.size() == 0 && self.negative)' '!(self.x == 0 && self.negative)'
 wrong 'accepted at e(N) too' 'self.tested < self.e' 'self.tested <= self.e'
@@ -89,14 +118,6 @@ wrong 'attempts counted up to the limit' 'attempts: attempts.len(),' 'attempts: 
 wrong 'entries counted up to the limit' 'entries: entries.len()' 'entries: 46 * call.limit + 2'
 
 # Read list of a draw
-wrong 'the scan is left at the first threshold above d' 'list_attempt(&mut entries, t, samples.len());' \
-    'list_attempt(&mut entries, t, samples.len());
-     let end = entries.len() - 22;
-     entries.drain(end - 2 * (9 - attempt.x.min(9) as usize)..end);'
-wrong 'no exponential at size 0' 'list_attempt(&mut entries, t, samples.len());' \
-    'list_attempt(&mut entries, t, samples.len());
-     let end = entries.len() - 1;
-     entries.drain(end - if attempt.size() == 0 { 21 } else { 0 }..end);'
 wrong 'kind 5 counts after the attempt' 'list_attempt(&mut entries, t, samples.len());' \
     'list_attempt(&mut entries, t, samples.len() + usize::from(attempt.accepted()));'
 wrong 'kind 5 has the attempt' 'list_attempt(&mut entries, t, samples.len());' 'list_attempt(&mut entries, t, t);'
@@ -112,12 +133,21 @@ wrong 'a refused draw gives degree 0 for a wrong one' 'session: call.session,' \
 
 # Refusals of a draw
 wrong 'a refused draw zeroes y' 'y: call.y.clone(),' 'y: vec![0; call.y.len()],'
+wrong 'refusals 2 and 1 in the other order' 'if !degree_is_served(n) {' \
+    'if call.cdt.len() + 1 != 21 { return 2; }
+     if !degree_is_served(n) {'
+wrong 'refusals 3 and 2 in the other order' 'if call.cdt.len() != 20 ||' \
+    'if call.cdt.len() == 20 && !cdt_is_right(&call.cdt) { return 3; }
+     if call.cdt.len() != 20 ||'
 wrong 'refusals 3 and 4 in the other order' 'if !cdt_is_right(&call.cdt) {' \
     'if call.polynomial != POLYNOMIAL { return 4; }
      if !cdt_is_right(&call.cdt) {'
 wrong 'refusals 5 and 4 in the other order' 'if call.polynomial != POLYNOMIAL {' \
     'if limit < 2 * n || limit > 32 * n { return 5; }
      if call.polynomial != POLYNOMIAL {'
+wrong 'refusals 7 and 5 in the other order' 'if limit < 2 * n ||' \
+    'if call.words.len() / 4 < limit { return 7; }
+     if limit < 2 * n ||'
 wrong 'refusals 7 and 8 in the other order' 'if call.words.len() < 4 * limit {' \
     'if call.list.len() < 46 * limit + 2 { return 8; }
      if call.words.len() < 4 * limit {'
@@ -125,15 +155,18 @@ wrong 'equal thresholds are refused' 'threshold(cdt, i) < threshold(cdt, i - 1)'
     'threshold(cdt, i) <= threshold(cdt, i - 1)'
 wrong 'low words may fall at equal high words' 'threshold(cdt, i) < threshold(cdt, i - 1)' 'cdt[2 * i] < cdt[2 * i - 2]'
 wrong 'a CDT word may be 2^62' 'u128::from(word) >= ONE' 'u128::from(word) > ONE'
+wrong 'the last CDT word is not looked at' 'for &word in cdt {' 'for &word in &cdt[..19] {'
+wrong 'entry 20 of the polynomial table is not looked at' 'call.polynomial != POLYNOMIAL' \
+    'call.polynomial[..20] != POLYNOMIAL[..20]'
 wrong 'L = 2n is refused' 'limit < 2 * n' 'limit <= 2 * n'
 wrong 'L = 32n is refused' 'limit > 32 * n' 'limit >= 32 * n'
 wrong 'more words than 4L are refused' 'call.words.len() < 4 * limit' 'call.words.len() != 4 * limit'
+wrong 'one word too few is served' 'call.words.len() < 4 * limit' 'call.words.len() + 1 < 4 * limit'
 wrong 'a list one short is served' 'call.list.len() < 46 * limit + 2' 'call.list.len() < 46 * limit + 1'
 
 part=respond.rs
 
 # Challenge product
-wrong 'no minus sign where a position wraps' '(i + n - c, true)' '(i + n - c, false)'
 wrong 'a minus sign where no position wraps' '(i - c, false)' '(i - c, true)'
 wrong 's1 in both halves' 'half_product(s2, challenge)' 'half_product(s1, challenge)'
 wrong 'the last position is left out' 'for &c in challenge {
@@ -149,6 +182,10 @@ wrong 'A is not tested' 'self.product_squares <= PRODUCT_LIMIT' 'true'
 wrong 'Z must be below its limit' 'self.response_squares <= RESPONSE_LIMIT' 'self.response_squares < RESPONSE_LIMIT'
 wrong 'Z may be one above its limit' 'self.response_squares <= RESPONSE_LIMIT' 'self.response_squares <= RESPONSE_LIMIT + 1'
 wrong 'Z is not tested' 'self.response_squares <= RESPONSE_LIMIT' 'true'
+wrong 'A of s1 alone' 'sum_of_squares(product)' 'sum_of_squares(&product[..product.len() / 2])'
+wrong 'A in 16 bits' 'sum_of_squares(product)' 'sum_of_squares(product) % (1 << 16)'
+wrong 'Z of z1 alone' 'sum_of_squares(&z)' 'sum_of_squares(&z[..z.len() / 2])'
+wrong 'Z in 32 bits' 'sum_of_squares(&z)' 'sum_of_squares(&z) % (1 << 32)'
 wrong 'Z of y' 'sum_of_squares(&z)' 'y.iter().map(|&value| u128::from(value.unsigned_abs()).pow(2)).sum()'
 wrong 'N1 = A' 'PRODUCT_LIMIT.saturating_sub(product_squares)' 'product_squares.min(PRODUCT_LIMIT)'
 wrong 'N1 = 0' 'PRODUCT_LIMIT.saturating_sub(product_squares)' 'PRODUCT_LIMIT.min(0)'
@@ -172,7 +209,6 @@ wrong 'the cosh test passes at equal high words' 'self.tested2 * (ONE + self.f) 
 wrong 'no cosh test' 'self.tested2 * (ONE + self.f) < self.e2 * (1 << 63)' 'true'
 wrong 'every response is rejected' 'self.tests() == [true; 4]' 'false'
 wrong 'three tests of four are enough' 'self.tests() == [true; 4]' 'self.tests().iter().filter(|&&test| test).count() >= 3'
-wrong 'z is kept on bit 0' 'z: if bit {' 'z: if bit || !bit {'
 wrong 'z before the call is kept on bit 0' 'else { vec![0; 2 * n] }' 'else { call.z.clone() }'
 wrong 'y is kept' 'y: vec![0; 2 * n],' 'y: call.y.clone(),'
 wrong 'y is kept on bit 0' 'y: vec![0; 2 * n],' 'y: if bit { vec![0; 2 * n] } else { call.y.clone() },'
@@ -208,6 +244,7 @@ wrong 'a challenge of n positions is refused' 'challenge.len() > n' 'challenge.l
 wrong 'position n is served' 'position as usize >= n' 'position as usize > n'
 wrong 'position n - 1 is refused' 'position as usize >= n' 'position as usize >= n - 1'
 wrong 'equal positions are served' 'position <= challenge[place - 1]' 'position < challenge[place - 1]'
+wrong 'positions may fall' 'position <= challenge[place - 1]' 'position == challenge[place - 1]'
 wrong 'more than three words are refused' 'call.words.len() < 3' 'call.words.len() != 3'
 wrong 'four words are asked for' 'call.words.len() < 3' 'call.words.len() < 4'
 wrong 'a list of one entry more is asked for' 'call.challenge.len() + 47' 'call.challenge.len() + 48'
@@ -220,8 +257,16 @@ wrong 'y value 2816 is served' '(-2815..=2815)' '(-2815..=2816)'
 wrong 'y value -2816 is served' '(-2815..=2815)' '(-2816..=2815)'
 wrong 'y value 2815 is refused' '(-2815..=2815)' '(-2815..2815)'
 wrong 'y value -2815 is refused' '(-2815..=2815)' '(-2814..=2815)'
+wrong 'entry 20 of the polynomial table is not looked at' 'call.polynomial != POLYNOMIAL' \
+    'call.polynomial[..20] != POLYNOMIAL[..20]'
 wrong 'the first key value is not looked at' 'call.key.iter().any' 'call.key.iter().skip(1).any'
 wrong 'the last value of y is not looked at' 'call.y.iter().any' 'call.y.iter().rev().skip(1).any'
+wrong 'refusals 2 and 1 in the other order' 'if !degree_is_served(n) {' \
+    'if call.polynomial.len() + 1 != 22 { return 2; }
+     if !degree_is_served(n) {'
+wrong 'refusals 4 and 2 in the other order' 'if call.polynomial.len() != 21 ||' \
+    'if call.polynomial.len() == 21 && call.polynomial[..] != POLYNOMIAL[..] { return 4; }
+     if call.polynomial.len() != 21 ||'
 wrong 'refusals 6 and 4 in the other order' 'if call.polynomial != POLYNOMIAL {' \
     'if !challenge_is_right(&call.challenge, n) { return 6; }
      if call.polynomial != POLYNOMIAL {'

@@ -57,9 +57,9 @@ pub fn open(n: usize) -> (u32, Session) {
 }
 
 pub fn draw(origin: &dyn Display, call: &draw::Call) -> Drawn {
-    let cdt = Lent::new(&call.cdt);
-    let polynomial = Lent::new(&call.polynomial);
-    let words = Lent::new(&call.words);
+    let mut cdt = Lent::new(&call.cdt);
+    let mut polynomial = Lent::new(&call.polynomial);
+    let mut words = Lent::new(&call.words);
     let mut y = Lent::new(&call.y);
     let mut list = Lent::new(&call.list);
     // SAFETY: each pointer is valid for its length, and the five buffers are allocated apart from each other.
@@ -67,11 +67,11 @@ pub fn draw(origin: &dyn Display, call: &draw::Call) -> Drawn {
         raw::bliss_draw(
             given(call.session),
             call.limit,
-            cdt.as_ptr(),
+            cdt.as_mut_ptr(),
             cdt.len(),
-            polynomial.as_ptr(),
+            polynomial.as_mut_ptr(),
             polynomial.len(),
-            words.as_ptr(),
+            words.as_mut_ptr(),
             words.len(),
             y.as_mut_ptr(),
             y.len(),
@@ -94,10 +94,10 @@ pub fn draw(origin: &dyn Display, call: &draw::Call) -> Drawn {
 }
 
 pub fn respond(origin: &dyn Display, call: &respond::Call) -> Responded {
-    let challenge = Lent::new(&call.challenge);
-    let polynomial = Lent::new(&call.polynomial);
-    let words = Lent::new(&call.words);
-    let key = Lent::new(&call.key);
+    let mut challenge = Lent::new(&call.challenge);
+    let mut polynomial = Lent::new(&call.polynomial);
+    let mut words = Lent::new(&call.words);
+    let mut key = Lent::new(&call.key);
     let mut y = Lent::new(&call.y);
     let mut z = Lent::new(&call.z);
     let mut list = Lent::new(&call.list);
@@ -105,13 +105,13 @@ pub fn respond(origin: &dyn Display, call: &respond::Call) -> Responded {
     let responded = unsafe {
         raw::bliss_respond(
             given(call.session),
-            challenge.as_ptr(),
+            challenge.as_mut_ptr(),
             challenge.len(),
-            polynomial.as_ptr(),
+            polynomial.as_mut_ptr(),
             polynomial.len(),
-            words.as_ptr(),
+            words.as_mut_ptr(),
             words.len(),
-            key.as_ptr(),
+            key.as_mut_ptr(),
             key.len(),
             y.as_mut_ptr(),
             y.len(),

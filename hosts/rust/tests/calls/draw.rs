@@ -12,17 +12,7 @@ const REFUSALS: [u32; 7] = [5, 7, 8, 4, 3, 2, 1];
 /// A call with everything right, apart from a degree that may be a refused one.
 pub fn right(random: &mut Random, degree: usize) -> Call {
     let limit = limit(random, degree);
-    let cdt = cdt(random);
-    let words = words(random, limit, &cdt);
-    let mut call = Call {
-        session: Session { degree, drawn: random.one_in(2) },
-        limit,
-        cdt,
-        polynomial: POLYNOMIAL.to_vec(),
-        words,
-        y: (0..2 * degree).map(|_| random.word() as i32).collect(),
-        list: (0..46 * limit + 2).map(|_| random.word() as u32).collect(),
-    };
+    let mut call = with_limit(random, degree, limit);
     if random.one_in(3) {
         meet_limit(random, &mut call);
     }
@@ -30,6 +20,22 @@ pub fn right(random: &mut Random, degree: usize) -> Call {
         lend_more(random, &mut call);
     }
     call
+}
+
+/// A right call that is lent just what this limit asks for.
+pub fn with_limit(random: &mut Random, degree: usize, limit: usize) -> Call {
+    let ordinary = random.one_in(4);
+    let cdt = if ordinary { bliss_box::CDT.to_vec() } else { cdt(random) };
+    let words = if ordinary { any_words(random, 4 * limit) } else { words(random, limit, &cdt) };
+    Call {
+        session: Session { degree, drawn: random.one_in(2) },
+        limit,
+        cdt,
+        polynomial: POLYNOMIAL.to_vec(),
+        words,
+        y: (0..2 * degree).map(|_| random.word() as i32).collect(),
+        list: (0..46 * limit + 2).map(|_| random.word() as u32).collect(),
+    }
 }
 
 /// A call that may be right, or refused for one or more reasons, and these reasons.
@@ -85,15 +91,19 @@ pub fn cdt(random: &mut Random) -> Vec<u64> {
         0..=2 => return bliss_box::CDT.to_vec(),
         3 => return known_points_cdt(),
         // Equal thresholds.
-        4 => [[random.pick(&[0, high, BOUND - 1]), random.pick(&[0, high, BOUND - 1])]; 10].to_vec(),
+        4 => vec![[random.pick(&[0, high, BOUND - 1]), random.pick(&[0, high, BOUND - 1])]; 10],
         // Equal high words and differing low words.
         5 => (0..10).map(|_| [high, random.word() % BOUND]).collect(),
         // Thresholds at 0 and at the greatest value, and some between.
         6 => (0..10).map(|_| random.pick(&[[0, 0], [high, high], [BOUND - 1, BOUND - 1]])).collect(),
-        _ => (0..10).map(|_| [random.word() % BOUND, random.word() % BOUND]).collect::<Vec<_>>(),
+        _ => (0..10).map(|_| [random.word() % BOUND, random.word() % BOUND]).collect(),
     };
     thresholds.sort();
     thresholds.concat()
+}
+
+fn any_words(random: &mut Random, count: usize) -> Vec<u64> {
+    (0..count).map(|_| random.word()).collect()
 }
 
 /// The words of a draw.
@@ -102,7 +112,7 @@ fn words(random: &mut Random, limit: usize, cdt: &[u64]) -> Vec<u64> {
     match random.below(10) {
         0 => vec![same; 4 * limit],
         1 => (0..limit).flat_map(|_| [0, 0, 256, random.word()]).collect(),
-        2..=5 => (0..4 * limit).map(|_| random.word()).collect(),
+        2..=4 => any_words(random, 4 * limit),
         _ => {
             let accepting = random.below(5);
             (0..limit).flat_map(|_| edge_words(random, cdt, accepting)).collect()
@@ -115,7 +125,7 @@ pub fn edge_words(random: &mut Random, cdt: &[u64], accepting: usize) -> [u64; 4
     let d = edge_d(random, cdt);
     let any = random.word();
     let sign_and_low = random.pick(&[0, 1, 255, 256, 257, 511, any % 512]);
-    let over = random.pick(&[0, 0, 1, any >> 9]);
+    let over = random.pick(&[0, 0, 1, any >> 9, u64::MAX >> 9]);
     let high = top_bits(random, (d >> 62) as u64);
     let low = top_bits(random, (d % u128::from(BOUND)) as u64);
     let mut words = [high, low, sign_and_low + (over << 9), 0];

@@ -21,6 +21,15 @@ pub fn degree(random: &mut Random) -> usize {
     DEGREES[random.word().trailing_zeros().min(8) as usize]
 }
 
+/// A degree for a list of calls: of these there are fewer, so that the larger degrees are somewhat likelier.
+pub fn degree_of_list(random: &mut Random) -> usize {
+    if random.one_in(8) {
+        random.pick(&DEGREES)
+    } else {
+        degree(random)
+    }
+}
+
 /// A call that may be right, or refused for one or more of these reasons, and the reasons. They are brought about in their order.
 fn any<C>(
     random: &mut Random,
@@ -35,7 +44,7 @@ fn any<C>(
     if near {
         reasons.push(1);
     }
-    let wanted = random.pick(&[0, 0, 0, 1, 1, 2, 3, 7]);
+    let wanted = random.pick(&[0, 0, 0, 1, 1, 2, 3, refusals.len()]);
     for &refusal in refusals {
         if random.below(refusals.len()) < wanted && spoil(random, &mut call, refusal) {
             reasons.push(refusal);

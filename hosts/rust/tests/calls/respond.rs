@@ -157,10 +157,16 @@ fn tune(random: &mut Random, key: &mut [i32], challenge: &[u32], target: i128) {
     }
 }
 
-/// A right y: noise, the greatest values, a multiple of the product for a large I, or a y whose Z is at its limit.
+/// I at 0 and near it; and the greatest I whose e is not 0, and the next.
+const INNER_EDGES: [i128; 4] = [0, 1, 1_986_525, 1_986_526];
+
+/// Z at its limit and above, and those that are at most the limit in 32 bits.
+const RESPONSE_EDGES: [u128; 4] = [RESPONSE_LIMIT, RESPONSE_LIMIT + 1, 1 << 32, (1 << 32) + RESPONSE_LIMIT];
+
+/// A right y: noise, the greatest values, a multiple of the product for a large I, or a y whose I or Z is at an edge.
 fn y(random: &mut Random, product: &[i128], minus: bool) -> Vec<i32> {
     let length = product.len();
-    match random.below(10) {
+    match random.below(12) {
         0 => vec![0; length],
         // The deviation of a draw's noise.
         1 | 2 => (0..length).map(|_| within(random, 372)).collect(),
@@ -170,11 +176,35 @@ fn y(random: &mut Random, product: &[i128], minus: bool) -> Vec<i32> {
             let times = within(random, 62);
             product.iter().map(|&value| (value as i32 * times).clamp(-GREATEST_Y, GREATEST_Y)).collect()
         }
+        7 | 8 => {
+            let target = random.pick(&INNER_EDGES) * random.pick(&[1, -1]);
+            y_of_inner(product, minus, target)
+        }
         _ => {
-            let target = random.pick(&[RESPONSE_LIMIT, RESPONSE_LIMIT + 1]);
+            let target = random.pick(&RESPONSE_EDGES);
             y_of_squares(random, product, minus, target as i64)
         }
     }
+}
+
+/// A y whose I is the target, where the product allows it: a multiple of the product, and what is left goes to the places of the
+/// product's greatest values first.
+fn y_of_inner(product: &[i128], minus: bool, target: i128) -> Vec<i32> {
+    let bound = i128::from(GREATEST_Y);
+    let squares: i128 = product.iter().map(|value| value * value).sum();
+    // I is the sum of products of y and Sc, and A more, or less.
+    let wanted = if minus { target + squares } else { target - squares };
+    let times = wanted / squares.max(1);
+    let mut y: Vec<i128> = product.iter().map(|value| (value * times).clamp(-bound, bound)).collect();
+    let mut left = wanted - y.iter().zip(product).map(|(y, value)| y * value).sum::<i128>();
+    let mut places: Vec<usize> = (0..y.len()).filter(|&place| product[place] != 0).collect();
+    places.sort_by_key(|&place| -product[place].abs());
+    for place in places {
+        let value = (y[place] + left / product[place]).clamp(-bound, bound);
+        left -= (value - y[place]) * product[place];
+        y[place] = value;
+    }
+    y.into_iter().map(|value| value as i32).collect()
 }
 
 /// A y whose Z is the target, where the degree has one. Each value of z takes about an equal part of what is left, and the last
@@ -260,10 +290,10 @@ fn spoil_challenge(random: &mut Random, call: &mut Call) {
                 challenge.remove(if twice == last { 0 } else { challenge.len() - 1 });
             }
         }
-        // The last one falls.
+        // One falls.
         (3, Some(_)) if challenge.len() > 1 => {
-            let end = challenge.len() - 1;
-            challenge.swap(end - 1, end);
+            let place = 1 + random.below(challenge.len() - 1);
+            challenge.swap(place - 1, place);
         }
         // One too many, all of them ascending.
         (4 | 5, _) => *challenge = (0..=degree.min(64)).collect(),

@@ -1,32 +1,23 @@
-//! Calls of the archive compared with the model, and how many of them a run makes.
+//! Calls of the archive compared with the model, and how many of them were.
 
-use std::env;
-use std::fmt::{Debug, Display};
+use std::fmt::{self, Debug, Display, Formatter};
+use std::sync::atomic::{AtomicU64, Ordering::Relaxed};
 
 use bliss_box::raw;
 
 use crate::archive;
 use crate::model::{self, draw, respond, Session};
 
-const DEFAULT_CALLS: u64 = 24_000;
-pub const DEFAULT_SEED: u64 = 1;
-
-fn number_from_environment(name: &str, default: u64) -> u64 {
-    env::var(name).map_or(default, |text| text.parse().unwrap_or_else(|_| panic!("{name} is not a number: {text}")))
-}
-
-fn calls_wanted() -> u64 {
-    number_from_environment("BLISS_CALLS", DEFAULT_CALLS)
-}
-
-/// The seeds of a run with one for every `share` of the calls that are wanted.
-pub fn seeds(share: u64) -> impl Iterator<Item = u64> {
-    (number_from_environment("BLISS_SEED", DEFAULT_SEED)..).take(calls_wanted().div_ceil(share) as usize)
-}
-
-/// Whether the run is long enough to meet every case. A shorter one is for seeing a failure again.
-pub fn is_whole_run() -> bool {
-    calls_wanted() >= DEFAULT_CALLS
+/// What all parts of a run compared.
+#[derive(Default)]
+pub struct Comparison {
+    openings: AtomicU64,
+    draws: AtomicU64,
+    responds: AtomicU64,
+    filled: AtomicU64,
+    exponentials: AtomicU64,
+    lists: AtomicU64,
+    pairs: AtomicU64,
 }
 
 /// Fails where what the box gave is not what the model gives, and names the first place of difference.
@@ -38,51 +29,90 @@ pub fn same<T: PartialEq + Debug>(origin: &dyn Display, what: &str, given: &[T],
     }
 }
 
-/// Opens with the box and with the model, and compares.
-pub fn opening(n: usize) -> Session {
-    let (refusal, session) = archive::open(n);
-    let expected = model::open(n);
-    same(&format!("opening with {n}"), "the refusal", &[refusal], &[expected.0]);
-    same(&format!("opening with {n}"), "the session", &[session], &[expected.1]);
-    session
+impl Comparison {
+    /// Opens with the box and with the model, and compares.
+    pub fn opening(&self, n: usize) -> Session {
+        let origin = format!("opening with {n}");
+        let (refusal, session) = archive::open(n);
+        let expected = model::open(n);
+        same(&origin, "the refusal", &[refusal], &[expected.0]);
+        same(&origin, "the session", &[session], &[expected.1]);
+        self.openings.fetch_add(1, Relaxed);
+        session
+    }
+
+    /// Draws with the box and with the model, and compares.
+    pub fn draw(&self, origin: &dyn Display, call: &draw::Call) -> draw::Drawn {
+        let given = archive::draw(origin, call);
+        let expected = draw::draw(call);
+        same(origin, "the refusal", &[given.answer.refusal], &[expected.answer.refusal]);
+        same(origin, "the attempts", &[given.answer.attempts], &[expected.answer.attempts]);
+        same(origin, "the accepted count", &[given.answer.accepted], &[expected.answer.accepted]);
+        same(origin, "the session", &[given.session], &[expected.session]);
+        same(origin, "y", &given.y, &expected.y);
+        same(origin, "the entries", &[given.answer.entries], &[expected.answer.entries]);
+        same(origin, "the list", &given.list, &expected.list);
+        self.filled(origin, &given.list, given.answer.entries);
+        self.draws.fetch_add(1, Relaxed);
+        expected
+    }
+
+    /// Responds with the box and with the model, and compares.
+    pub fn respond(&self, origin: &dyn Display, call: &respond::Call) -> respond::Responded {
+        let given = archive::respond(origin, call);
+        let expected = respond::respond(call);
+        same(origin, "the refusal", &[given.answer.refusal], &[expected.answer.refusal]);
+        same(origin, "the bit", &[given.answer.bit], &[expected.answer.bit]);
+        same(origin, "the session", &[given.session], &[expected.session]);
+        same(origin, "y", &given.y, &expected.y);
+        same(origin, "z", &given.z, &expected.z);
+        same(origin, "the entries", &[given.answer.entries], &[expected.answer.entries]);
+        same(origin, "the list", &given.list, &expected.list);
+        self.filled(origin, &given.list, given.answer.entries);
+        self.responds.fetch_add(1, Relaxed);
+        expected
+    }
+
+    /// The safe function hands back the list's own part, so pointers are compared, and the raw one its length.
+    pub fn filled(&self, origin: &dyn Display, list: &[u32], count: usize) {
+        let expected = model::filled(list, count);
+        // SAFETY: pointer and length are those of one slice.
+        let length = unsafe { raw::bliss_filled(list.as_ptr(), list.len(), count) };
+        same(origin, "the length of the filled part", &[length], &[expected.len()]);
+        same(origin, "the filled part", &[bliss_box::filled(list, count).as_ptr_range()], &[expected.as_ptr_range()]);
+        self.filled.fetch_add(1, Relaxed);
+    }
+
+    pub fn exponential(&self, n: u64) {
+        // SAFETY: the call takes any number and no pointer.
+        let given = unsafe { raw::bliss_exponential(n) };
+        same(&format!("exponential of {n}"), "the result", &[given], &[model::exponential(n)]);
+        self.exponentials.fetch_add(1, Relaxed);
+    }
+
+    /// Counts a list of calls, each of which was compared.
+    pub fn count_list(&self) {
+        self.lists.fetch_add(1, Relaxed);
+    }
+
+    /// Counts two lists of calls that were compared with each other, for demand 3.
+    pub fn count_pair(&self) {
+        self.pairs.fetch_add(1, Relaxed);
+    }
+
+    /// The draws and respond calls that were compared with the model.
+    pub fn calls(&self) -> u64 {
+        self.draws.load(Relaxed) + self.responds.load(Relaxed)
+    }
 }
 
-/// Draws with the box and with the model, and compares.
-pub fn draw(origin: &dyn Display, call: &draw::Call) -> draw::Drawn {
-    let given = archive::draw(origin, call);
-    let expected = draw::draw(call);
-    same(origin, "the answer", &[given.answer], &[expected.answer]);
-    same(origin, "the session", &[given.session], &[expected.session]);
-    same(origin, "y", &given.y, &expected.y);
-    same(origin, "the list", &given.list, &expected.list);
-    filled(origin, &given.list, given.answer.entries);
-    expected
-}
-
-/// Responds with the box and with the model, and compares.
-pub fn respond(origin: &dyn Display, call: &respond::Call) -> respond::Responded {
-    let given = archive::respond(origin, call);
-    let expected = respond::respond(call);
-    same(origin, "the answer", &[given.answer], &[expected.answer]);
-    same(origin, "the session", &[given.session], &[expected.session]);
-    same(origin, "y", &given.y, &expected.y);
-    same(origin, "z", &given.z, &expected.z);
-    same(origin, "the list", &given.list, &expected.list);
-    filled(origin, &given.list, given.answer.entries);
-    expected
-}
-
-/// The safe function hands back the list's own part, so pointers are compared, and the raw one its length.
-pub fn filled(origin: &dyn Display, list: &[u32], count: usize) {
-    let expected = model::filled(list, count);
-    // SAFETY: pointer and length are those of one slice.
-    let length = unsafe { raw::bliss_filled(list.as_ptr(), list.len(), count) };
-    same(origin, "the length of the filled part", &[length], &[expected.len()]);
-    same(origin, "the filled part", &[bliss_box::filled(list, count).as_ptr_range()], &[expected.as_ptr_range()]);
-}
-
-pub fn exponential(n: u64) {
-    // SAFETY: the call takes any number and no pointer.
-    let given = unsafe { raw::bliss_exponential(n) };
-    same(&format!("exponential of {n}"), "the result", &[given], &[model::exponential(n)]);
+impl Display for Comparison {
+    fn fmt(&self, f: &mut Formatter<'_>) -> fmt::Result {
+        let count = |counter: &AtomicU64| counter.load(Relaxed);
+        write!(f, "{} draws and {} respond calls", count(&self.draws), count(&self.responds))?;
+        write!(f, " ({} lists of calls among them)", count(&self.lists))?;
+        write!(f, ", {} openings, {} filled parts", count(&self.openings), count(&self.filled))?;
+        write!(f, " and {} exponentials with the model", count(&self.exponentials))?;
+        write!(f, ", and {} pairs of lists of calls with each other", count(&self.pairs))
+    }
 }

@@ -1,54 +1,137 @@
 //! What draws came across.
 
-use super::Coverage;
+use super::{at_degree, Coverage, TOP_BITS};
 use crate::model::draw::{threshold, Attempt, Call, Drawn};
 
 /// The refusals of a draw.
 pub const REFUSALS: [u32; 7] = [1, 2, 3, 4, 5, 7, 8];
 
+/// The greatest threshold, and the greatest d.
+const GREATEST: u128 = (1 << 124) - 1;
+
+/// The edges of word 2, and whether an attempt with it can be rejected: where b is 0, a zero with sign 1 alone is.
+const WORD_2_EDGES: [(u64, bool); 7] =
+    [(0, false), (255, true), (256, true), (257, true), (511, true), (512, false), (u64::MAX, true)];
+
+/// A side of a threshold, whether d is on it, and whether d then counts the threshold.
+type Side = (&'static str, fn(u128, u128) -> bool, bool);
+
+const SIDES: [Side; 3] =
+    [("just below", |d, t| d + 1 == t, false), ("at", |d, t| d == t, true), ("just above", |d, t| d == t + 1, true)];
+
+/// The attempts that a draw made, each with its words.
+struct Made<'a> {
+    attempts: Vec<(&'a [u64], &'a Attempt)>,
+}
+
+impl Made<'_> {
+    fn count(&self, case: impl Fn(&Attempt, &[u64]) -> bool) -> usize {
+        self.attempts.iter().filter(|(words, attempt)| case(attempt, words)).count()
+    }
+}
+
 impl Coverage {
-    /// Counts a draw that was compared, with the reasons for which it could be refused.
-    pub fn count_draw(&mut self, call: &Call, drawn: &Drawn, reasons: &[u32]) {
-        self.count_call(call.session, drawn.answer.refusal, reasons);
+    /// Counts a draw that was compared.
+    pub fn count_draw(&mut self, call: &Call, drawn: &Drawn) {
+        self.count_call(call.session, drawn.answer.refusal);
         if drawn.answer.refusal == 0 {
+            let thresholds: Vec<u128> = (0..10).map(|i| threshold(&call.cdt, i)).collect();
+            let made = Made { attempts: call.words.chunks(4).zip(&drawn.attempts).collect() };
             self.count_full_or_spent(call, drawn);
-            self.count_attempts(call, drawn);
+            self.count_table(&thresholds);
+            self.count_scans(&made, &thresholds);
+            self.count_ends(&made, &thresholds);
+            self.count_edges_of_attempts(&made);
         }
     }
 
     fn count_full_or_spent(&mut self, call: &Call, drawn: &Drawn) {
-        let wanted = 2 * call.session.degree;
-        let full = drawn.answer.accepted == wanted;
-        self.see("full", usize::from(full));
-        self.see("full on the last attempt", usize::from(full && drawn.answer.attempts == call.limit));
-        self.see("full, limit 2n", usize::from(full && call.limit == wanted));
-        self.see("full, limit 32n", usize::from(full && call.limit == 16 * wanted));
-        self.see("spent", usize::from(!full));
-        self.see("spent, one sample short", usize::from(drawn.answer.accepted == wanted - 1));
-        self.see("spent, limit 32n", usize::from(!full && call.limit == 16 * wanted));
-        self.see("spent, y drawn before", usize::from(!full && call.session.drawn));
-        self.see("full, y drawn before", usize::from(full && call.session.drawn));
+        let n = call.session.degree;
+        let full = drawn.answer.accepted == 2 * n;
+        self.count(at_degree(if full { "full" } else { "spent" }, n), 1);
+        self.see("full on the last attempt", full && drawn.answer.attempts == call.limit);
+        self.see("full, limit 2n", full && call.limit == 2 * n);
+        self.see("full, limit 32n", full && call.limit == 32 * n);
+        self.see("full, y drawn before", full && call.session.drawn);
+        self.see("spent, one sample short", drawn.answer.accepted == 2 * n - 1);
+        self.see("spent, no sample", drawn.answer.accepted == 0);
+        self.see("spent, limit 2n", !full && call.limit == 2 * n);
+        self.see("spent, limit 32n", !full && call.limit == 32 * n);
+        self.see("spent, y drawn before", !full && call.session.drawn);
+        self.see("just 4L words", call.words.len() == 4 * call.limit);
+        self.see("one word more than 4L", call.words.len() == 4 * call.limit + 1);
+        self.see("list of just 46L + 2", call.list.len() == 46 * call.limit + 2);
+        self.see("list of one entry more than 46L + 2", call.list.len() == 46 * call.limit + 3);
     }
 
-    fn count_attempts(&mut self, call: &Call, drawn: &Drawn) {
-        let thresholds: Vec<u128> = (0..10).map(|i| threshold(&call.cdt, i)).collect();
-        let count = |case: &dyn Fn(&Attempt) -> bool| drawn.attempts.iter().filter(|&attempt| case(attempt)).count();
-        self.see("attempts", drawn.attempts.len());
-        self.see("zero with sign 1 rejected", count(&|a| a.size() == 0 && a.negative && a.tested < a.e));
-        self.see("zero with sign 0 accepted", count(&|a| a.size() == 0 && !a.negative && a.accepted()));
-        self.see("d at a threshold", count(&|a| thresholds.contains(&a.d)));
-        self.see("d just below a threshold", count(&|a| thresholds.contains(&(a.d + 1))));
-        self.see("d just above a threshold", count(&|a| thresholds.iter().any(|t| t + 1 == a.d)));
-        self.see(
-            "d below a threshold of its high word",
-            count(&|a| thresholds.iter().any(|t| t >> 62 == a.d >> 62 && a.d < *t)),
-        );
-        self.see(
-            "d above a threshold of its high word",
-            count(&|a| thresholds.iter().any(|t| t >> 62 == a.d >> 62 && a.d > *t)),
-        );
-        self.see("word 3 at e(N)", count(&|a| a.tested == a.e));
-        self.see("word 3 at e(N) - 1", count(&|a| a.tested + 1 == a.e));
-        self.see("greatest size", count(&|a| a.size() == 2815 && a.accepted()));
+    fn count_table(&mut self, thresholds: &[u128]) {
+        let pairs = || thresholds.windows(2).map(|pair| (pair[0], pair[1]));
+        self.see("equal thresholds", pairs().any(|(a, b)| a == b));
+        self.see("ten equal thresholds", pairs().all(|(a, b)| a == b));
+        self.see("equal high words, other low words", pairs().any(|(a, b)| a >> 62 == b >> 62 && a < b));
+        self.see("ten equal high words, other low words", pairs().all(|(a, b)| a >> 62 == b >> 62 && a < b));
+        self.see("ten high words", pairs().all(|(a, b)| a >> 62 < b >> 62));
+        self.see("threshold at 0", thresholds[0] == 0);
+        self.see("ten thresholds at 0", thresholds[9] == 0);
+        self.see("threshold at 2^124 - 1", thresholds[9] == GREATEST);
+        self.see("ten thresholds at 2^124 - 1", thresholds[0] == GREATEST);
+        self.see("thresholds at 0, at 2^124 - 1 and between", {
+            thresholds[0] == 0 && thresholds[9] == GREATEST && thresholds.iter().any(|&t| t > 0 && t < GREATEST)
+        });
+    }
+
+    /// d beside each threshold, counting those below it and no other, and with each pair of top bits of words 0 and 1.
+    fn count_scans(&mut self, made: &Made, thresholds: &[u128]) {
+        for (side, is_met, counts) in SIDES {
+            for (i, &t) in (0..).zip(thresholds) {
+                let x = i + u64::from(counts);
+                self.count(format!("d {side} threshold {i}, x = {x}"), made.count(|a, _| is_met(a.d, t) && a.x == x));
+            }
+            for (word, top) in [0, 1].into_iter().flat_map(|word| TOP_BITS.map(|top| (word, top))) {
+                let case = format!("d {side} a threshold, top bits of word {word} {top:02b}");
+                let met = |a: &Attempt, words: &[u64]| words[word] >> 62 == top && thresholds.iter().any(|&t| is_met(a.d, t));
+                self.count(case, made.count(met));
+            }
+        }
+        for x in 0..=10 {
+            self.count(format!("x = {x} accepted"), made.count(|a, _| a.x == x && a.accepted()));
+        }
+    }
+
+    /// d at either end, and d and a threshold on both sides of a high word, or in one.
+    fn count_ends(&mut self, made: &Made, thresholds: &[u128]) {
+        let any = |case: &dyn Fn(u128, u128) -> bool| made.count(|a, _| thresholds.iter().any(|&t| case(a.d, t)));
+        let low = |t: u128| t % (1 << 62);
+        self.count("d = 0 at a threshold", any(&|d, t| d == 0 && t == 0));
+        self.count("d = 0 below all thresholds", made.count(|a, _| a.d == 0 && a.x == 0));
+        self.count("d = 2^124 - 1 at a threshold", any(&|d, t| d == GREATEST && t == GREATEST));
+        self.count("d = 2^124 - 1 above all thresholds", made.count(|a, _| a.d == GREATEST && thresholds[9] < GREATEST));
+        self.count("d just below a threshold of low word 0", any(&|d, t| d + 1 == t && low(t) == 0));
+        self.count("d just above a threshold of low word 2^62 - 1", any(&|d, t| d == t + 1 && low(d) == 0));
+        self.count("d below a threshold of its high word", any(&|d, t| t >> 62 == d >> 62 && d < t));
+        self.count("d above a threshold of its high word", any(&|d, t| t >> 62 == d >> 62 && d > t));
+    }
+
+    /// Words 2 and 3.
+    fn count_edges_of_attempts(&mut self, made: &Made) {
+        self.count("attempts", made.attempts.len());
+        for (edge, rejectable) in WORD_2_EDGES {
+            self.count(format!("word 2 = {edge} accepted"), made.count(|a, words| words[2] == edge && a.accepted()));
+            if rejectable {
+                self.count(format!("word 2 = {edge} rejected"), made.count(|a, words| words[2] == edge && !a.accepted()));
+            }
+        }
+        for top in TOP_BITS {
+            let count = |case: fn(&Attempt) -> bool| made.count(|a, words| words[3] >> 62 == top && case(a));
+            self.count(format!("word 3 at e(N) - 1, top bits {top:02b}"), count(|a| a.tested + 1 == a.e && a.accepted()));
+            self.count(format!("word 3 at e(N), top bits {top:02b}"), count(|a| a.tested == a.e));
+            self.count(format!("word 3 at e(N) + 1, top bits {top:02b}"), count(|a| a.tested == a.e + 1));
+            self.count(format!("word 3 at 0, top bits {top:02b}"), count(|a| a.tested == 0 && a.accepted()));
+            self.count(format!("word 3 at 2^62 - 1, top bits {top:02b}"), count(|a| a.tested + 1 == 1 << 62 && a.accepted()));
+        }
+        self.count("zero with sign 1 rejected", made.count(|a, _| a.size() == 0 && a.negative && a.tested < a.e));
+        self.count("zero with sign 0 accepted", made.count(|a, _| a.size() == 0 && !a.negative && a.accepted()));
+        self.count("greatest size, sign 0", made.count(|a, _| a.size() == 2815 && !a.negative && a.accepted()));
+        self.count("greatest size, sign 1", made.count(|a, _| a.size() == 2815 && a.negative && a.accepted()));
     }
 }

@@ -7,66 +7,100 @@ use std::collections::BTreeMap;
 
 use crate::calls::DEGREES;
 use crate::model::Session;
+use crate::run;
 
 pub use draw::REFUSALS as DRAW_REFUSALS;
 pub use respond::REFUSALS as RESPOND_REFUSALS;
 
+/// The top two bits of a word, which 62 of the word leaves out.
+const TOP_BITS: [u64; 4] = [0, 1, 2, 3];
+
+/// Cases, and how often each was met.
 #[derive(Default)]
 pub struct Coverage {
-    seen: BTreeMap<String, usize>,
+    met: BTreeMap<String, usize>,
 }
 
 impl Coverage {
-    pub fn see(&mut self, case: impl Into<String>, times: usize) {
-        *self.seen.entry(case.into()).or_default() += times;
+    /// Counts a case that was met so many times. 0 names a case that the run may still miss.
+    pub fn count(&mut self, case: impl Into<String>, times: usize) {
+        *self.met.entry(case.into()).or_default() += times;
     }
 
-    /// Counts what every call has: its degree if it is served, else its refusal, and the reasons that come after it.
-    fn count_call(&mut self, session: Session, refusal: u32, reasons: &[u32]) {
-        self.see("calls", 1);
-        if refusal == 0 {
-            self.see(degree(session.degree), 1);
-            return;
+    pub fn see(&mut self, case: impl Into<String>, met: bool) {
+        self.count(case, usize::from(met));
+    }
+
+    /// Counts what every call has.
+    fn count_call(&mut self, session: Session, refusal: u32) {
+        self.count("calls", 1);
+        if refusal != 0 {
+            self.count(refused(refusal), 1);
+            self.see("refused, y drawn", session.drawn);
+            self.see("refused, y not drawn", !session.drawn);
         }
-        self.see(refused(refusal), 1);
-        for &reason in reasons.iter().filter(|&&reason| reason != refusal) {
-            self.see(refused_before(refusal, reason), 1);
+    }
+
+    /// Counts the reasons for which a call could be refused, of the refusals that it has. The first in order refuses it.
+    pub fn count_reasons(&mut self, reasons: &[u32], refusals: &[u32]) {
+        if let Some(&first) = reasons.iter().min() {
+            self.see(refused_alone(first), reasons == [first]);
+            for &reason in reasons.iter().filter(|&&reason| reason != first) {
+                self.count(refused_before(first, reason), 1);
+            }
         }
-        self.see("refused, y drawn", usize::from(session.drawn));
+        self.see("every refusal at once", refusals.iter().all(|refusal| reasons.contains(refusal)));
     }
 
-    /// Fails where a case was not met: a refusal, one before another, a degree, or any that is counted.
-    pub fn require_every_case(&self, refusals: &[u32]) {
-        let pairs = refusals.iter().flat_map(|&first| {
-            let others = refusals.iter().filter(move |&&other| other > first);
-            others.map(move |&other| refused_before(first, other))
-        });
-        self.require(refusals.iter().copied().map(refused));
-        self.require(pairs);
-        self.require(DEGREES.map(degree));
-        self.require(self.seen.keys().cloned());
-    }
-
+    /// Fails where a whole run missed one of these cases.
     pub fn require(&self, cases: impl IntoIterator<Item = String>) {
-        for case in cases {
-            assert!(self.seen.get(&case).is_some_and(|&times| times > 0), "the run met no case of: {case}");
+        if run::is_whole() {
+            for case in cases {
+                assert!(self.met.get(&case).is_some_and(|&times| times > 0), "the run met no case of: {case}");
+            }
         }
+    }
+
+    /// Fails where a whole run missed a case that it counts.
+    pub fn require_what_is_counted(&self) {
+        self.require(self.met.keys().cloned());
     }
 
     pub fn print(&self, title: &str) {
-        let lines: String = self.seen.iter().map(|(case, times)| format!("{times:9}  {case}\n")).collect();
-        println!("{title}:\n{lines}");
+        if run::prints_cases() {
+            let lines: String = self.met.iter().map(|(case, times)| format!("{times:9}  {case}\n")).collect();
+            println!("{title}:\n{lines}");
+        }
     }
 }
 
-fn refused(refusal: u32) -> String {
+/// Each of these at every degree.
+pub fn at_every_degree(cases: &[&str]) -> Vec<String> {
+    DEGREES.iter().flat_map(|&n| cases.iter().map(move |case| at_degree(case, n))).collect()
+}
+
+/// Each of these refusals, alone, and before each of the others that come after it.
+pub fn every_refusal(refusals: &[u32]) -> Vec<String> {
+    let alone = refusals.iter().map(|&refusal| refused_alone(refusal));
+    let pairs = refusals.iter().flat_map(|&first| {
+        let others = refusals.iter().filter(move |&&other| other > first);
+        others.map(move |&other| refused_before(first, other))
+    });
+    alone.chain(pairs).collect()
+}
+
+pub fn refused(refusal: u32) -> String {
     format!("refusal {refusal}")
+}
+
+fn refused_alone(refusal: u32) -> String {
+    format!("refusal {refusal} alone")
 }
 
 fn refused_before(refusal: u32, other: u32) -> String {
     format!("refusal {refusal} before {other}")
 }
 
-fn degree(n: usize) -> String {
-    format!("served, n = {n:4}")
+pub fn at_degree(case: &str, n: usize) -> String {
+    format!("{case}, n = {n:4}")
 }

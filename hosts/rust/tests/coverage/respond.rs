@@ -1,73 +1,160 @@
 //! What respond calls came across.
 
-use super::Coverage;
+use super::{at_degree, Coverage, TOP_BITS};
 use crate::calls::respond::{GREATEST_KEY, GREATEST_Y};
-use crate::model::respond::{Call, Responded, Response};
+use crate::model::respond::{Call, Responded, Response, PRODUCT_LIMIT, RESPONSE_LIMIT};
 
 /// The refusals of a respond call.
 pub const REFUSALS: [u32; 9] = [1, 2, 4, 6, 7, 8, 9, 10, 11];
 
+/// The four tests of a response, where one alone fails.
+const BY_A: [bool; 4] = [false, true, true, true];
+const BY_Z: [bool; 4] = [true, false, true, true];
+const BY_WORD_1: [bool; 4] = [true, true, false, true];
+const BY_COSH: [bool; 4] = [true, true, true, false];
+
 impl Coverage {
-    /// Counts a respond call that was compared, with the reasons for which it could be refused.
-    pub fn count_respond(&mut self, call: &Call, responded: &Responded, reasons: &[u32]) {
-        self.count_call(call.session, responded.answer.refusal, reasons);
+    /// Counts a respond call that was compared.
+    pub fn count_respond(&mut self, call: &Call, responded: &Responded) {
+        self.count_call(call.session, responded.answer.refusal);
         if let Some(response) = &responded.response {
-            self.count_challenge(call);
+            self.count(at_degree(if response.bit() { "accepted" } else { "rejected" }, call.session.degree), 1);
+            self.count_lent(call);
+            self.count_sums(call, response);
             self.count_accepted(call, response);
             self.count_rejected(response);
+            self.count_edges_of_words(call, response);
+        }
+        if responded.answer.refusal == 6 {
+            self.count_wrong_challenge(call);
+        }
+        if responded.answer.refusal == 10 {
+            self.count_places("refusal 10", &call.key, GREATEST_KEY);
+        }
+        if responded.answer.refusal == 11 {
+            self.count_places("refusal 11", &call.y, GREATEST_Y);
         }
     }
 
-    fn count_challenge(&mut self, call: &Call) {
+    fn count_lent(&mut self, call: &Call) {
         let n = call.session.degree;
         let positions = call.challenge.len();
         let greatest = |values: &[i32], bound: i32| values.iter().all(|value| value.abs() == bound);
-        self.see("one position", usize::from(positions == 1));
-        self.see("64 positions", usize::from(positions == 64));
-        self.see("n positions at n = 4", usize::from(n == 4 && positions == n));
-        self.see("position n - 1", usize::from(call.challenge[positions - 1] as usize == n - 1));
-        self.see("64 positions, key at -7 and 7", usize::from(positions == 64 && greatest(&call.key, GREATEST_KEY)));
-        self.see("y at -2815 and 2815", usize::from(greatest(&call.y, GREATEST_Y)));
-        self.see("more words than 3", usize::from(call.words.len() > 3));
+        let one_sign = |values: &[i32]| values.iter().all(|&value| value == values[0]);
+        self.see("one position", positions == 1);
+        self.see("64 positions", positions == 64);
+        self.see("n positions, n below 64", positions == n && n < 64);
+        self.see("position 0", call.challenge[0] == 0);
+        self.see("position n - 1", call.challenge[positions - 1] as usize == n - 1);
+        let greatest_key = positions == 64 && greatest(&call.key, GREATEST_KEY);
+        self.see("64 positions, key at -7 and 7", greatest_key && !one_sign(&call.key));
+        self.see("64 positions, key at 7", greatest_key && one_sign(&call.key) && call.key[0] > 0);
+        self.see("64 positions, key at -7", greatest_key && one_sign(&call.key) && call.key[0] < 0);
+        self.see("y at -2,815 and 2,815", greatest(&call.y, GREATEST_Y) && !one_sign(&call.y));
+        self.see("just 3 words", call.words.len() == 3);
+        self.see("4 words", call.words.len() == 4);
+        let least = 2 * n * positions + 47;
+        self.see("list of just 2n × length + 47", call.list.len() == least);
+        self.see("list of one entry more", call.list.len() == least + 1);
+    }
+
+    /// A, Z and I at their edges.
+    fn count_sums(&mut self, call: &Call, r: &Response) {
+        let in_32_bits = r.response_squares % (1 << 32);
+        self.see("A above 2^20", r.product_squares > 1 << 20);
+        self.see("Z above 2^32", r.response_squares > 1 << 32);
+        self.see("rejected by Z alone, in 32 bits at most its limit", r.tests() == BY_Z && in_32_bits <= RESPONSE_LIMIT);
+        self.see("2|I| above 5,534,960", 2 * r.inner.abs() > 5_534_960);
+        self.see("accepted, A = 0", r.bit() && r.product_squares == 0);
+        self.see("accepted, A = 46,224", r.bit() && r.product_squares == 46_224);
+        self.see("accepted, A = 46,225", r.bit() && r.product_squares == PRODUCT_LIMIT);
+        self.see("accepted, A = 46,225, word 1 = 2^62 - 1", {
+            r.bit() && r.product_squares == PRODUCT_LIMIT && r.tested1 + 1 == 1 << 62
+        });
+        self.see("accepted, Z = 165,688,384", r.bit() && r.response_squares == RESPONSE_LIMIT);
+        self.see("rejected by A = 46,226 alone", r.tests() == BY_A && r.product_squares == 46_226);
+        self.see("rejected by Z = 165,688,385 alone", r.tests() == BY_Z && r.response_squares == 165_688_385);
+        self.see("rejected by A and Z alone", r.tests() == [false, false, true, true]);
+        self.see("accepted, a value of y at 2,815", r.bit() && call.y.contains(&GREATEST_Y));
+        self.see("accepted, a value of y at -2,815", r.bit() && call.y.contains(&-GREATEST_Y));
+        self.see("accepted, a value of the key at 7", r.bit() && call.key.contains(&GREATEST_KEY));
+        self.see("accepted, a value of the key at -7", r.bit() && call.key.contains(&-GREATEST_KEY));
     }
 
     fn count_accepted(&mut self, call: &Call, r: &Response) {
-        let mut see = |case: &str, met: bool| self.see(case, usize::from(met && r.bit()));
-        see("accepted", true);
-        see("accepted, g = 0", !r.minus && r.product_squares > 0);
-        see("accepted, g = 1", r.minus && r.product_squares > 0);
-        see("accepted, A = 0", r.product_squares == 0);
-        see("accepted, A = 46,225", r.product_squares == 46_225);
-        see("accepted, Z = 165,688,384", r.response_squares == 165_688_384);
-        see("accepted, I below 0", r.inner < 0);
-        see("accepted, I above 0", r.inner > 0);
-        see("accepted, word 1 at e(N1) - 1", r.tested1 + 1 == r.e1);
-        see("accepted, word 2 the last to pass", r.e2 > 0 && r.cosh_sides().0 + r.cosh_factor() >= r.cosh_sides().1);
+        let mut see = |case: &str, met: bool| self.see(case, met && r.bit() && r.product_squares > 0);
+        see("accepted, g = 0", !r.minus);
+        see("accepted, g = 1", r.minus);
+        see("accepted, word 0 = 0", call.words[0] == 0);
+        see("accepted, word 0 = 1", call.words[0] == 1);
+        see("accepted, word 0 = 2^64 - 2", call.words[0] == u64::MAX - 1);
+        see("accepted, word 0 = 2^64 - 1", call.words[0] == u64::MAX);
+        see("accepted, I = 0", r.inner == 0);
+        see("accepted, I = 1", r.inner == 1);
+        see("accepted, I = -1", r.inner == -1);
+        see("accepted, I = 1,986,525: the last e above 0", r.inner == 1_986_525);
+        see("accepted, I = -1,986,525: the last e above 0", r.inner == -1_986_525);
         see("accepted, cosh sides of one high word", r.cosh_in_one_high_word());
-        see("accepted, top bits of words 1 and 2", call.words[1] >> 62 != 0 && call.words[2] >> 62 != 0);
-        let degree = format!("accepted, n = {:4}", call.session.degree);
-        see(&degree, true);
     }
 
     /// Counts a response that one of its tests alone rejects.
     fn count_rejected(&mut self, r: &Response) {
-        let mut see = |case: &str, tests: [bool; 4], met: bool| self.see(case, usize::from(met && r.tests() == tests));
-        let by_a = [false, true, true, true];
-        let by_z = [true, false, true, true];
-        let by_word_1 = [true, true, false, true];
-        let by_cosh = [true, true, true, false];
-        see("rejected by A alone", by_a, true);
-        see("rejected by A = 46,226 alone", by_a, r.product_squares == 46_226);
-        see("rejected by Z alone", by_z, true);
-        see("rejected by Z = 165,688,385 alone", by_z, r.response_squares == 165_688_385);
-        see("rejected by word 1 alone", by_word_1, true);
-        see("rejected by word 1 = e(N1) alone", by_word_1, r.tested1 == r.e1);
-        see("rejected by the cosh test alone", by_cosh, true);
-        see("rejected by the first word 2 not to pass alone", by_cosh, r.cosh_sides().0 < r.cosh_sides().1 + r.cosh_factor());
-        see("rejected by cosh sides of one high word alone", by_cosh, r.cosh_in_one_high_word());
-        see("rejected by e(N2) = 0 with word 2 = 0 alone", by_cosh, r.e2 == 0 && r.tested2 == 0);
-        see("rejected by A and Z alone", [false, false, true, true], true);
-        self.see("2|I| above 5,534,960", usize::from(2 * r.inner.abs() > 5_534_960));
+        let mut see = |case: &str, tests: [bool; 4], met: bool| self.see(case, met && r.tests() == tests);
+        see("rejected by A alone", BY_A, true);
+        see("rejected by Z alone", BY_Z, true);
+        see("rejected by word 1 alone", BY_WORD_1, true);
+        see("rejected by the cosh test alone", BY_COSH, true);
+        see("rejected by the cosh test alone, I above 0", BY_COSH, r.inner > 0);
+        see("rejected by the cosh test alone, I below 0", BY_COSH, r.inner < 0);
+        see("rejected by cosh sides of one high word alone", BY_COSH, r.cosh_in_one_high_word());
+        see("rejected by e = 0 alone, word 2 = 0", BY_COSH, r.e2 == 0 && r.tested2 == 0);
+        see("rejected by I = 1,986,526 alone, word 2 = 0", BY_COSH, r.inner.abs() == 1_986_526 && r.tested2 == 0);
+    }
+
+    /// Words 1 and 2 on both sides of what decides, with each pair of top bits.
+    fn count_edges_of_words(&mut self, call: &Call, r: &Response) {
+        let (left, right) = r.cosh_sides();
+        for top in TOP_BITS {
+            let mut see = |word: usize, case: &str, met: bool| {
+                self.see(format!("{case}, top bits {top:02b}"), met && call.words[word] >> 62 == top);
+            };
+            see(1, "accepted, word 1 = e(N1) - 1", r.bit() && r.tested1 + 1 == r.e1);
+            see(1, "rejected by word 1 = e(N1) alone", r.tests() == BY_WORD_1 && r.tested1 == r.e1);
+            see(2, "accepted, the last word 2 to pass", r.bit() && left + r.cosh_factor() >= right);
+            see(2, "rejected by the first word 2 not to pass alone", r.tests() == BY_COSH && left < right + r.cosh_factor());
+        }
+    }
+
+    fn count_wrong_challenge(&mut self, call: &Call) {
+        let n = call.session.degree;
+        let challenge = &call.challenge;
+        let ascends = challenge.windows(2).all(|pair| pair[0] < pair[1]);
+        let below_n = challenge.iter().all(|&position| (position as usize) < n);
+        self.see("refusal 6, empty", challenge.is_empty());
+        self.see("refusal 6, 65 positions alone", challenge.len() == 65 && ascends && below_n);
+        self.see("refusal 6, n + 1 positions", challenge.len() == n + 1);
+        let length_is_right = !challenge.is_empty() && challenge.len() <= n.min(64);
+        self.see("refusal 6, position n alone", length_is_right && ascends && challenge.contains(&(n as u32)));
+        self.see(
+            "refusal 6, a greater position alone",
+            length_is_right && ascends && challenge.iter().any(|&c| c as usize > n),
+        );
+        let equal = challenge.windows(2).any(|pair| pair[0] == pair[1]);
+        let falls = challenge.windows(2).any(|pair| pair[0] > pair[1]);
+        self.see("refusal 6, equal positions alone", length_is_right && below_n && equal && !falls);
+        self.see("refusal 6, falling positions alone", length_is_right && below_n && falls && !equal);
+    }
+
+    /// Where the values are that are outside their bounds.
+    fn count_places(&mut self, refusal: &str, values: &[i32], bound: i32) {
+        let outside: Vec<usize> = (0..values.len()).filter(|&place| values[place].unsigned_abs() > bound as u32).collect();
+        let last = values.len() - 1;
+        self.see(format!("{refusal}, the first value alone"), outside == [0]);
+        self.see(format!("{refusal}, the last value alone"), outside == [last]);
+        self.see(format!("{refusal}, a value between alone"), outside.len() == 1 && ![0, last].contains(&outside[0]));
+        self.see(format!("{refusal}, several values"), outside.len() > 1);
+        self.see(format!("{refusal}, {} alone", bound + 1), outside.len() == 1 && values[outside[0]] == bound + 1);
+        self.see(format!("{refusal}, -{} alone", bound + 1), outside.len() == 1 && values[outside[0]] == -bound - 1);
     }
 }
 

@@ -1,344 +1,233 @@
 //! The customer's third demand, as a property of the running archive: over lists of calls, each from a fresh opening, the read
 //! list tells exactly the history, and nothing but what it lists decides what the calls give.
 
+mod history;
+mod places;
+mod steps;
+
+use std::collections::hash_map::DefaultHasher;
 use std::collections::HashMap;
+use std::hash::{Hash, Hasher};
 
-use crate::archive;
-use crate::calls;
-use crate::comparison;
-use crate::coverage::Coverage;
-use crate::model::draw::Attempt;
-use crate::model::{self, draw, respond, Session, POLYNOMIAL};
+use crate::comparison::Comparison;
+use crate::coverage::{at_degree, at_every_degree, Coverage};
 use crate::random::Random;
+use crate::run;
+use history::{history, neighbours, Event, History, DIFFERENCES};
+use places::{counterpart, different, listed, KEY, POLYNOMIAL, THRESHOLD, WORD};
+use steps::{calls_of, run_any, Call, Given, Step};
 
-/// What a history holds of a call that is not refused, apart from the degree.
-#[derive(Clone, Debug, PartialEq, Eq, Hash)]
-enum Event {
-    Draw { bits: Vec<bool> },
-    Respond { challenge: Vec<u32>, bit: bool },
+/// The degree of a history's opening. An empty history has any opening, and may have a refused one.
+fn degree_of(random: &mut Random, history: &History) -> usize {
+    history.first().map_or_else(|| random.pick(&[4, 8, 12]), |&(degree, _)| degree)
 }
 
-/// The kinds, the degree, the accept bits and the challenges of the calls that are not refused, in order.
-type History = Vec<(usize, Event)>;
-
-#[derive(Clone)]
-enum Call {
-    Draw(draw::Call),
-    Respond(respond::Call),
+fn read_list(given: &[Given]) -> Vec<u32> {
+    given.iter().flat_map(|given| given.entries.iter().copied()).collect()
 }
 
-/// A call of a list. One that is to be refused lends a y of its own, the others the one that the list has in common.
-#[derive(Clone)]
-struct Step {
-    call: Call,
-    refused: bool,
+/// The histories and the read lists of a run, so that any two of them are compared, and not pairs alone. They are long, and so
+/// kept by their hashes.
+#[derive(Default)]
+struct Known {
+    lists: HashMap<u64, u64>,
+    histories: HashMap<u64, u64>,
 }
 
-/// What the caller sees of a call, and its part of the read list.
-#[derive(Debug, PartialEq, Eq)]
-struct Seen {
-    refusal: u32,
-    counts: [usize; 3],
-    session: Session,
-    y: Vec<i32>,
-    z: Vec<i32>,
-    entries: Vec<u32>,
+fn hash_of(value: impl Hash) -> u64 {
+    let mut hasher = DefaultHasher::new();
+    value.hash(&mut hasher);
+    hasher.finish()
 }
 
-/// Small degrees: every response can be accepted and can be rejected, whatever noise was drawn.
-const DEGREES: [usize; 2] = [4, 8];
+impl Known {
+    fn compare(&mut self, origin: &str, history: &History, list: &[u32]) {
+        let (history, list) = (hash_of(history), hash_of(list));
+        let same_list = *self.lists.entry(history).or_insert(list) == list;
+        assert!(same_list, "{origin}: equal histories have different read lists");
+        let same_history = *self.histories.entry(list).or_insert(history) == history;
+        assert!(same_history, "{origin}: different histories have equal read lists");
+    }
+}
 
-/// How often secrets are chosen anew until they give an accept bit. Many times fewer are enough.
-const TRIES: usize = 1000;
-
-/// A history that can occur: a draw ends where it is full, or after 2n to 32n attempts; a response comes after a full draw.
-fn history(random: &mut Random) -> History {
-    let degree = random.pick(&DEGREES);
-    let mut drawn = false;
-    let mut events = Vec::new();
-    for _ in 0..random.below(5) {
-        if drawn && !random.one_in(4) {
-            events.push((degree, Event::Respond { challenge: short_challenge(random, degree), bit: random.one_in(2) }));
-            drawn = false;
-        } else {
-            let bits = bits(random, degree);
-            drawn = accepted(&bits) == 2 * degree;
-            events.push((degree, Event::Draw { bits }));
+/// The first half: two lists of calls have equal read lists exactly when their histories are equal. Each history has two lists of
+/// calls, and neighbours that differ from it in one thing alone.
+pub fn read_lists_are_equal_exactly_when_histories_are(comparison: &Comparison) {
+    let mut coverage = Coverage::default();
+    let mut known = Known::default();
+    for seed in run::seeds(40) {
+        let origin = format!("BLISS_SEED={seed}");
+        let mut random = Random::new(seed);
+        let history = history(&mut random);
+        let (steps, list) = listed_calls(&mut random, &origin, &history);
+        let (other_steps, other_list) = listed_calls(&mut random, &origin, &history);
+        assert!(list == other_list, "{origin}: equal histories have different read lists");
+        comparison.count_pair();
+        known.compare(&origin, &history, &list);
+        count_history(&mut coverage, &history);
+        count_what_differs(&mut coverage, &steps, &other_steps);
+        for (name, neighbour) in neighbours(&mut random, &history) {
+            let (_, other_list) = listed_calls(&mut random, &origin, &neighbour);
+            assert!(list != other_list, "{origin}: histories that differ in {name} have equal read lists");
+            comparison.count_pair();
+            known.compare(&origin, &neighbour, &other_list);
+            coverage.count(differing(name), 1);
         }
     }
-    events
+    coverage.print("demand 3, histories");
+    coverage.require_what_is_counted();
+    coverage.require(DIFFERENCES.map(|(_, name)| differing(name)));
+    coverage.require(at_every_degree(&["draw", "response"]));
 }
 
-fn short_challenge(random: &mut Random, degree: usize) -> Vec<u32> {
-    let mut challenge = calls::respond::challenge(random, degree);
-    challenge.truncate(3);
-    challenge
+fn differing(name: &str) -> String {
+    format!("histories that differ in {name} alone")
 }
 
-fn accepted(bits: &[bool]) -> usize {
-    bits.iter().filter(|&&bit| bit).count()
+/// A list of calls with this history, refused ones among them, and its read list.
+fn listed_calls(random: &mut Random, origin: &str, history: &History) -> (Vec<Step>, Vec<u32>) {
+    let degree = degree_of(random, history);
+    let steps = calls_of(random, degree, history, true);
+    let list = read_list(&steps::run(random, origin, degree, &steps));
+    (steps, list)
 }
 
-/// Mostly full after few attempts; else spent after 2n to 3n attempts.
-fn bits(random: &mut Random, degree: usize) -> Vec<bool> {
-    let spent = random.one_in(4);
-    let most = if spent { 2 * degree + random.below(degree + 1) } else { 32 * degree };
-    let mut bits = Vec::new();
-    while accepted(&bits) < 2 * degree && bits.len() < most {
-        let last = accepted(&bits) + 1 == 2 * degree;
-        bits.push(random.below(8) < 7 && !(spent && last));
-    }
-    bits
-}
-
-/// A history that differs little: in a bit, in a challenge, in the order of two bits, or by one call.
-fn neighbour(random: &mut Random, history: &History) -> History {
-    let mut changed = history.clone();
-    let Some((degree, event)) = changed.last_mut() else {
-        return changed;
-    };
-    match event {
-        Event::Respond { bit, .. } if random.one_in(3) => *bit = !*bit,
-        Event::Respond { challenge, .. } if random.one_in(2) => *challenge = short_challenge(random, *degree),
-        Event::Draw { bits } if random.one_in(2) => {
-            let place = random.below(bits.len() - 2);
-            bits.swap(place, place + 1);
-        }
-        _ => drop(changed.pop()),
-    }
-    changed
-}
-
-/// A list of calls with this history, and with any secrets, tables and limits. With `refused`, calls that are refused stand among
-/// them.
-fn calls_of(random: &mut Random, history: &History, refused: bool) -> Vec<Step> {
-    let degree = history.first().map_or(4, |&(degree, _)| degree);
-    let mut session = model::open(degree).1;
-    let mut y = Vec::new();
-    let mut steps = Vec::new();
-    for (_, event) in history {
-        add_refused(random, degree, refused, &mut steps);
+fn count_history(coverage: &mut Coverage, history: &History) {
+    coverage.see("empty history", history.is_empty());
+    coverage.see("history of four calls", history.len() == 4);
+    for (degree, event) in history {
         match event {
             Event::Draw { bits } => {
-                let call = draw_of(random, session, bits);
-                let drawn = draw::draw(&call);
-                let given: Vec<bool> = drawn.attempts.iter().map(Attempt::accepted).collect();
-                assert_eq!(&given, bits, "a draw with other accept bits than were chosen");
-                (session, y) = (drawn.session, drawn.y);
-                steps.push(Step { call: Call::Draw(call), refused: false });
+                coverage.count(at_degree("draw", *degree), 1);
+                coverage.see("full draw", history::accepted(bits) == 2 * degree);
+                coverage.see("spent draw", history::accepted(bits) < 2 * degree);
             }
-            Event::Respond { challenge, bit } => {
-                let (call, responded) = respond_of(random, session, &y, challenge, *bit);
-                (session, y) = (responded.session, responded.y);
-                steps.push(Step { call: Call::Respond(call), refused: false });
+            Event::Respond { bit, .. } => {
+                coverage.count(at_degree("response", *degree), 1);
+                coverage.see("accepted response", *bit);
+                coverage.see("rejected response", !*bit);
             }
         }
     }
-    add_refused(random, degree, refused, &mut steps);
-    steps
 }
 
-/// None, or some calls that are refused.
-fn add_refused(random: &mut Random, degree: usize, wanted: bool, steps: &mut Vec<Step>) {
-    while wanted && random.one_in(3) {
-        steps.push(Step { call: refused_call(random, degree), refused: true });
-    }
-}
-
-/// A call that every session refuses, with any y.
-fn refused_call(random: &mut Random, degree: usize) -> Call {
-    if random.one_in(2) {
-        let mut call = calls::draw::right(random, degree);
-        let refusal = random.pick(&[2, 3, 4, 5, 7, 8]);
-        assert!(calls::draw::spoil(random, &mut call, refusal));
-        Call::Draw(call)
-    } else {
-        let mut call = calls::respond::right(random, degree);
-        let refusal = random.pick(&[2, 4, 6, 7, 8, 10, 11]);
-        assert!(calls::respond::spoil(random, &mut call, refusal));
-        Call::Respond(call)
-    }
-}
-
-fn draw_of(random: &mut Random, session: Session, bits: &[bool]) -> draw::Call {
-    let degree = session.degree;
-    let cdt = calls::draw::cdt(random);
-    let words: Vec<u64> = bits.iter().flat_map(|&bit| attempt_words(random, &cdt, bit)).collect();
-    let full = accepted(bits) == 2 * degree;
-    let limit = if full { bits.len() + random.below(32 * degree - bits.len() + 1) } else { bits.len() };
-    let mut call =
-        draw::Call { session, limit, cdt, polynomial: POLYNOMIAL.to_vec(), words, y: vec![0; 2 * degree], list: Vec::new() };
-    call.words.resize_with(4 * limit + random.below(3), || random.word());
-    call.list.resize_with(46 * limit + 2 + random.below(3), || random.word() as u32);
-    call
-}
-
-fn attempt_words(random: &mut Random, cdt: &[u64], bit: bool) -> [u64; 4] {
-    for _ in 0..TRIES {
-        let words = calls::draw::edge_words(random, cdt, 2);
-        if Attempt::of(words, cdt).accepted() == bit {
-            return words;
-        }
-    }
-    panic!("no attempt has the accept bit {bit}");
-}
-
-fn respond_of(
-    random: &mut Random,
-    session: Session,
-    y: &[i32],
-    challenge: &[u32],
-    bit: bool,
-) -> (respond::Call, respond::Responded) {
-    for _ in 0..TRIES {
-        let mut call = calls::respond::over(random, session.degree, challenge, y);
-        call.session = session;
-        let responded = respond::respond(&call);
-        assert_eq!(responded.answer.refusal, 0, "a response that is refused");
-        if responded.answer.bit == bit {
-            return (call, responded);
-        }
-    }
-    panic!("no response has the bit {bit}");
-}
-
-/// Runs a list of calls on the archive, from an opening and with any y.
-fn run(random: &mut Random, origin: &str, degree: usize, steps: &[Step]) -> Vec<Seen> {
-    let (_, mut session) = archive::open(degree);
-    let mut y: Vec<i32> = (0..2 * degree).map(|_| random.word() as i32).collect();
-    let mut seen = Vec::new();
-    for step in steps {
-        let after = run_one(origin, step, session, &y);
-        assert_eq!(after.refusal != 0, step.refused, "{origin}: a call is served, or refused, against its making");
-        session = after.session;
-        if after.refusal == 0 {
-            y.clone_from(&after.y);
-        }
-        seen.push(after);
-    }
-    seen
-}
-
-fn run_one(origin: &str, step: &Step, session: Session, y: &[i32]) -> Seen {
-    match step.call.clone() {
-        Call::Draw(mut call) => {
-            call.session = session;
-            if !step.refused {
-                call.y = y.to_vec();
+/// In what two lists of calls of one history differ.
+fn count_what_differs(coverage: &mut Coverage, steps: &[Step], others: &[Step]) {
+    let refused = |steps: &[Step]| steps.iter().filter(|step| step.refused).count();
+    coverage.see("equal histories, other refused calls", refused(steps) != refused(others));
+    coverage.see("a refused call before a served one", steps.windows(2).any(|pair| pair[0].refused && !pair[1].refused));
+    let served = |step: &&Step| !step.refused;
+    for (step, other) in steps.iter().filter(served).zip(others.iter().filter(served)) {
+        match (&step.call, &other.call) {
+            (Call::Draw(call), Call::Draw(other)) => {
+                coverage.see("equal histories, other words of a draw", call.words[..4] != other.words[..4]);
+                coverage.see("equal histories, other thresholds", call.cdt != other.cdt);
+                coverage.see("equal histories, other limit", call.limit != other.limit);
             }
-            let archive::Drawn { answer, session, y, list } = archive::draw(&origin, &call);
-            let draw::Answer { refusal, attempts, accepted, entries } = answer;
-            let entries_listed = bliss_box::filled(&list, entries).to_vec();
-            Seen { refusal, counts: [attempts, accepted, entries], session, y, z: Vec::new(), entries: entries_listed }
-        }
-        Call::Respond(mut call) => {
-            call.session = session;
-            if !step.refused {
-                call.y = y.to_vec();
+            (Call::Respond(call), Call::Respond(other)) => {
+                coverage.see("equal histories, other words of a response", call.words[..3] != other.words[..3]);
+                coverage.see("equal histories, other key", call.key != other.key);
+                coverage.see("equal histories, other noise", call.y != other.y);
             }
-            let archive::Responded { answer, session, y, z, list } = archive::respond(&origin, &call);
-            let respond::Answer { refusal, bit, entries } = answer;
-            let entries_listed = bliss_box::filled(&list, entries).to_vec();
-            Seen { refusal, counts: [usize::from(bit), 0, entries], session, y, z, entries: entries_listed }
+            _ => panic!("equal histories of calls of different kinds"),
         }
     }
 }
 
-fn read_list(seen: &[Seen]) -> Vec<u32> {
-    seen.iter().flat_map(|seen| seen.entries.iter().copied()).collect()
+/// A list of calls, none of them refused, and what they gave.
+struct Ran {
+    origin: String,
+    random: Random,
+    history: History,
+    degree: usize,
+    steps: Vec<Step>,
+    given: Vec<Given>,
 }
 
-/// The first half: among many lists of calls, any two have equal read lists exactly when their histories are equal.
-#[test]
-fn read_lists_are_equal_exactly_when_histories_are() {
-    let mut coverage = Coverage::default();
-    let mut lists: HashMap<History, Vec<u32>> = HashMap::new();
-    let mut histories: HashMap<Vec<u32>, History> = HashMap::new();
-    for seed in comparison::seeds(40) {
+impl Ran {
+    fn of(seed: u64) -> Ran {
+        let origin = format!("BLISS_SEED={seed}");
         let mut random = Random::new(seed);
-        let first = history(&mut random);
-        let second = neighbour(&mut random, &first);
-        coverage.see("histories that differ little", usize::from(first != second));
-        for history in [&first, &first, &second] {
-            let steps = calls_of(&mut random, history, true);
-            let degree = history.first().map_or(random.pick(&[4, 8, 12]), |&(degree, _)| degree);
-            let list = read_list(&run(&mut random, &format!("BLISS_SEED={seed}"), degree, &steps));
-            let equal = lists.entry(history.clone()).or_insert_with(|| list.clone()) == &list;
-            assert!(equal, "BLISS_SEED={seed}: equal histories have different read lists");
-            let known = histories.entry(list).or_insert_with(|| history.clone());
-            assert_eq!(known, history, "BLISS_SEED={seed}: different histories have equal read lists");
-            coverage.see("empty history", usize::from(history.is_empty()));
-            coverage.see("refused calls", steps.iter().filter(|step| step.refused).count());
-        }
+        let history = history(&mut random);
+        let degree = degree_of(&mut random, &history);
+        let steps = calls_of(&mut random, degree, &history, false);
+        let given = steps::run(&mut random, &origin, degree, &steps);
+        Ran { origin, random, history, degree, steps, given }
     }
-    coverage.see("different histories", lists.len());
-    coverage.print("lists of calls by their histories");
-    if comparison::is_whole_run() {
-        coverage.require(["histories that differ little", "empty history", "refused calls"].map(String::from));
-    }
-}
-
-/// The places of one kind in a call's entries.
-fn listed(entries: &[u32], kind: u32) -> Vec<usize> {
-    entries.iter().filter(|&&entry| entry >> 24 == kind).map(|&entry| (entry % (1 << 24)) as usize).collect()
-}
-
-/// Values that agree with these at the listed places, and are others elsewhere.
-fn agreeing<T: Copy>(values: &[T], places: &[usize], mut other: impl FnMut() -> T) -> Vec<T> {
-    let mut agreeing: Vec<T> = values.iter().map(|_| other()).collect();
-    for &place in places {
-        agreeing[place] = values[place];
-    }
-    agreeing
-}
-
-/// A call of the same kind, limit and challenge, that agrees at what the first call's entries name. The rest is any: words,
-/// tables and keys elsewhere, z, and the list before the call, with its length.
-fn counterpart(random: &mut Random, step: &Step, entries: &[u32], coverage: &mut Coverage) -> Step {
-    let mut step = step.clone();
-    let (words, list) = match &mut step.call {
-        Call::Draw(call) => {
-            call.cdt = agreeing(&call.cdt, &listed(entries, 3), || random.word());
-            call.polynomial = agreeing(&call.polynomial, &listed(entries, 4), || random.word());
-            (&mut call.words, &mut call.list)
-        }
-        Call::Respond(call) => {
-            call.polynomial = agreeing(&call.polynomial, &listed(entries, 4), || random.word());
-            call.key = agreeing(&call.key, &listed(entries, 8), || random.word() as i32);
-            call.z.fill_with(|| random.word() as i32);
-            (&mut call.words, &mut call.list)
-        }
-    };
-    let places = listed(entries, 2);
-    coverage.see("words that are not listed", words.iter().enumerate().filter(|(place, _)| !places.contains(place)).count());
-    *words = agreeing(words, &places, || random.word());
-    words.extend((0..random.below(5)).map(|_| random.word()));
-    list.fill_with(|| random.word() as u32);
-    list.extend((0..random.below(5)).map(|_| random.word() as u32));
-    step
 }
 
 /// The second half: a list of calls that agrees with another at the places of the other's read list gives the same answers,
 /// sessions, samples, responses and read list.
-#[test]
-fn what_is_not_listed_decides_nothing() {
+pub fn what_is_not_listed_decides_nothing(comparison: &Comparison) {
     let mut coverage = Coverage::default();
-    for seed in comparison::seeds(20) {
-        let mut random = Random::new(seed);
-        let history = history(&mut random);
-        let degree = history.first().map_or(4, |&(degree, _)| degree);
-        let origin = format!("BLISS_SEED={seed}");
-        let steps = calls_of(&mut random, &history, false);
-        let seen = run(&mut random, &origin, degree, &steps);
-        let counterparts: Vec<Step> =
-            steps.iter().zip(&seen).map(|(step, seen)| counterpart(&mut random, step, &seen.entries, &mut coverage)).collect();
-        let counterparts_seen = run(&mut random, &origin, degree, &counterparts);
-        assert_eq!(counterparts_seen, seen, "BLISS_SEED={seed}: a place that is not listed decides");
-        coverage.see("draws", steps.iter().filter(|step| matches!(step.call, Call::Draw(_))).count());
-        coverage.see("responses", steps.iter().filter(|step| matches!(step.call, Call::Respond(_))).count());
+    for seed in run::seeds(20) {
+        let Ran { origin, mut random, history, degree, steps, given } = Ran::of(seed);
+        let pairs = steps.iter().zip(&given);
+        let counterparts: Vec<Step> = pairs.map(|(step, given)| counterpart(&mut random, step, &given.entries)).collect();
+        assert!(
+            steps::run(&mut random, &origin, degree, &counterparts) == given,
+            "{origin}: a place that is not listed decides"
+        );
+        comparison.count_pair();
+        count_history(&mut coverage, &history);
+        for ((step, given), counterpart) in steps.iter().zip(&given).zip(&counterparts) {
+            count_what_is_free(&mut coverage, step, given, counterpart);
+        }
     }
-    coverage.print("lists of calls and their counterparts");
-    if comparison::is_whole_run() {
-        coverage.require(["words that are not listed", "draws", "responses"].map(String::from));
+    coverage.print("demand 3, agreement");
+    coverage.require_what_is_counted();
+    coverage.require(at_every_degree(&["draw", "response"]));
+}
+
+/// What a call and its counterpart are lent that is not listed, and differs.
+fn count_what_is_free(coverage: &mut Coverage, step: &Step, given: &Given, counterpart: &Step) {
+    match (&step.call, &counterpart.call) {
+        (Call::Draw(call), Call::Draw(other)) => {
+            let read = listed(&given.entries, WORD).len();
+            coverage.see(
+                "words behind those that a draw read",
+                read < call.words.len() && call.words[read..] != other.words[read..],
+            );
+            coverage.see("list of another length", call.list.len() != other.list.len());
+        }
+        (Call::Respond(call), Call::Respond(other)) => {
+            coverage
+                .see("words behind those that a response read", call.words.len() > 3 && call.words[3..] != other.words[3..]);
+            coverage.see("another z before a response", call.z != other.z);
+        }
+        _ => panic!("a counterpart of another kind"),
     }
+}
+
+/// The second half is no empty one: another value at one listed place can change what the caller sees.
+pub fn what_is_listed_can_decide(comparison: &Comparison) {
+    let mut coverage = Coverage::default();
+    for seed in run::seeds(40) {
+        let Ran { origin, mut random, degree, steps, given, .. } = Ran::of(seed);
+        for (at, step) in steps.iter().enumerate() {
+            for kind in [WORD, THRESHOLD, POLYNOMIAL, KEY] {
+                let places = listed(&given[at].entries, kind);
+                if !places.is_empty() {
+                    let changed = [&steps[..at], &[different(&mut random, step, kind, &places)]].concat();
+                    let after = run_any(&mut random, &origin, degree, &changed);
+                    count_decision(&mut coverage, step, kind, &given[at], &after[at]);
+                    comparison.count_pair();
+                }
+            }
+        }
+    }
+    coverage.print("demand 3, difference");
+    coverage.require_what_is_counted();
+}
+
+/// Whether another value at a place of this kind changed what is seen of a call that is still served. Another polynomial table is
+/// always refused.
+fn count_decision(coverage: &mut Coverage, step: &Step, kind: u32, given: &Given, after: &Given) {
+    let call = match step.call {
+        Call::Draw(_) => "draw",
+        Call::Respond(_) => "response",
+    };
+    let served = after.seen.refusal == 0;
+    let decides = given.seen != after.seen && (served || kind == POLYNOMIAL);
+    coverage.see(format!("{call}: a place of kind {kind} decides"), decides);
 }

@@ -1,53 +1,66 @@
 //! Single draws.
 
-use crate::calls;
-use crate::comparison::{self, DEFAULT_SEED};
-use crate::coverage::{Coverage, DRAW_REFUSALS};
+use crate::calls::{self, DEGREES};
+use crate::comparison::Comparison;
+use crate::coverage::{at_every_degree, every_refusal, Coverage, DRAW_REFUSALS};
 use crate::model::draw::Call;
 use crate::random::Random;
+use crate::run::{self, DEFAULT_SEED};
 
-#[test]
-fn draws_are_the_models() {
+pub fn draws_are_the_models(comparison: &Comparison) {
     let mut coverage = Coverage::default();
-    for seed in comparison::seeds(1) {
+    for seed in run::seeds(1) {
         let (call, reasons) = calls::draw::any(&mut Random::new(seed));
-        let drawn = comparison::draw(&format!("BLISS_SEED={seed}"), &call);
+        let drawn = comparison.draw(&format!("BLISS_SEED={seed}"), &call);
         assert_eq!(drawn.answer.refusal, calls::first(&reasons), "BLISS_SEED={seed}: the call is not as it was made");
-        coverage.count_draw(&call, &drawn, &reasons);
+        coverage.count_draw(&call, &drawn);
+        coverage.count_reasons(&reasons, &DRAW_REFUSALS);
     }
-    coverage.print("single draws");
-    if comparison::is_whole_run() {
-        coverage.require_every_case(&DRAW_REFUSALS);
+    coverage.print("draws");
+    coverage.require_what_is_counted();
+    coverage.require(every_refusal(&DRAW_REFUSALS));
+    coverage.require(at_every_degree(&["full", "spent"]));
+}
+
+/// Each value of each table and each length that is checked, spoilt alone, and each end of what is served.
+pub fn each_check_alone_is_the_models(comparison: &Comparison) {
+    let mut random = Random::new(DEFAULT_SEED);
+    for n in DEGREES {
+        let right = calls::draw::with_limit(&mut random, n, 2 * n);
+        for (name, call) in spoilt_in_one_place(&right) {
+            let drawn = comparison.draw(&format!("n = {n}, {name}"), &call);
+            assert_ne!(drawn.answer.refusal, 0, "n = {n}, {name} is served");
+        }
+        for (name, call) in served_at_an_end(&mut random, &right) {
+            let drawn = comparison.draw(&format!("n = {n}, {name}"), &call);
+            assert_eq!(drawn.answer.refusal, 0, "n = {n}, {name} is refused");
+        }
     }
 }
 
-/// Each value of each table and each length that is checked, spoilt alone.
-#[test]
-fn each_check_alone_is_the_models() {
-    let mut random = Random::new(DEFAULT_SEED);
-    let right = calls::draw::right(&mut random, 4);
-    for (name, call) in spoilt_in_one_place(&right) {
-        let drawn = comparison::draw(&name, &call);
-        assert_ne!(drawn.answer.refusal, 0, "{name} is served");
-    }
-    assert_eq!(comparison::draw(&"nothing spoilt", &right).answer.refusal, 0);
+fn changed(right: &Call, change: impl Fn(&mut Call)) -> Call {
+    let mut call = right.clone();
+    change(&mut call);
+    call
+}
+
+fn served_at_an_end(random: &mut Random, right: &Call) -> Vec<(String, Call)> {
+    let n = right.session.degree;
+    let mut served = vec![("nothing spoilt".into(), right.clone())];
+    served.push((format!("limit {}", 32 * n), calls::draw::with_limit(random, n, 32 * n)));
+    served.push(("one word more".into(), changed(right, |call| call.words.push(7))));
+    served.push(("one entry more".into(), changed(right, |call| call.list.push(7))));
+    served.push(("all thresholds at 0".into(), changed(right, |call| call.cdt.fill(0))));
+    served.push(("all thresholds at 2^124 - 1".into(), changed(right, |call| call.cdt.fill((1 << 62) - 1))));
+    served
 }
 
 fn spoilt_in_one_place(right: &Call) -> Vec<(String, Call)> {
+    let n = right.session.degree;
     let mut spoilt = Vec::new();
-    let mut add = |name: String, spoil: &dyn Fn(&mut Call)| {
-        let mut call = right.clone();
-        spoil(&mut call);
-        spoilt.push((name, call));
-    };
-    for place in 0..20 {
-        add(format!("CDT word {place} at 2^62"), &|call| call.cdt[place] = 1 << 62);
-        add(format!("CDT word {place} at 2^64 - 1"), &|call| call.cdt[place] = u64::MAX);
-    }
-    for place in 0..21 {
-        add(format!("entry {place} too great"), &|call| call.polynomial[place] += 1);
-        add(format!("entry {place} too small"), &|call| call.polynomial[place] -= 1);
-        add(format!("entry {place} with its top bit changed"), &|call| call.polynomial[place] ^= 1 << 63);
+    let mut add = |name: String, spoil: &dyn Fn(&mut Call)| spoilt.push((name, changed(right, spoil)));
+    for degree in [0, n - 1, n + 1, 2048, n + (1 << 32), n + (1 << 63)] {
+        add(format!("degree {degree}"), &|call| call.session.degree = degree);
     }
     for length in [0, 19, 21] {
         add(format!("CDT of {length}"), &|call| call.cdt.resize(length, (1 << 62) - 1));
@@ -55,10 +68,10 @@ fn spoilt_in_one_place(right: &Call) -> Vec<(String, Call)> {
     for length in [0, 20, 22] {
         add(format!("polynomial table of {length}"), &|call| call.polynomial.resize(length, 0));
     }
-    for length in [0, 7, 9] {
+    for length in [0, n, 2 * n - 1, 2 * n + 1, 4 * n] {
         add(format!("y of {length}"), &|call| call.y.resize(length, 0));
     }
-    for limit in [0, 7, 129, 1 << 62, 1 << 63, usize::MAX] {
+    for limit in [0, 2 * n - 1, 32 * n + 1, 1 << 62, 1 << 63, usize::MAX] {
         add(format!("limit {limit}"), &|call| call.limit = limit);
     }
     for length in [0, 4 * right.limit - 1] {
@@ -66,6 +79,35 @@ fn spoilt_in_one_place(right: &Call) -> Vec<(String, Call)> {
     }
     for length in [0, 46 * right.limit + 1] {
         add(format!("list of {length}"), &|call| call.list.truncate(length));
+    }
+    add("all slices empty".into(), &|call| *call = with_nothing_lent(call));
+    spoilt.extend(spoilt_in_a_table(right));
+    spoilt
+}
+
+fn with_nothing_lent(call: &Call) -> Call {
+    let (session, limit) = (call.session, call.limit);
+    Call { session, limit, cdt: vec![], polynomial: vec![], words: vec![], y: vec![], list: vec![] }
+}
+
+fn spoilt_in_a_table(right: &Call) -> Vec<(String, Call)> {
+    let mut spoilt = Vec::new();
+    let mut add = |name: String, spoil: &dyn Fn(&mut Call)| spoilt.push((name, changed(right, spoil)));
+    for place in 0..20 {
+        add(format!("CDT word {place} at 2^62"), &|call| call.cdt[place] = 1 << 62);
+        add(format!("CDT word {place} at 2^64 - 1"), &|call| call.cdt[place] = u64::MAX);
+    }
+    for i in 1..10 {
+        add(format!("threshold {i} one above the next"), &|call| {
+            call.cdt[2 * i - 2] = call.cdt[2 * i];
+            call.cdt[2 * i + 1] = 5;
+            call.cdt[2 * i - 1] = 6;
+        });
+    }
+    for place in 0..21 {
+        add(format!("entry {place} too great"), &|call| call.polynomial[place] += 1);
+        add(format!("entry {place} too small"), &|call| call.polynomial[place] -= 1);
+        add(format!("entry {place} with its top bit changed"), &|call| call.polynomial[place] ^= 1 << 63);
     }
     spoilt
 }

@@ -1,5 +1,7 @@
 //! Buffers lent from the middle of larger ones, whose ends tell whether a call wrote outside what it was lent.
 
+use crate::comparison::Comparison;
+
 /// The values on each side of a lent buffer.
 const GUARDS: u8 = 16;
 
@@ -26,13 +28,9 @@ impl<T: Copy + PartialEq + From<u8>> Lent<T> {
         self.whole.len() - 2 * usize::from(GUARDS)
     }
 
-    pub fn as_ptr(&self) -> *const T {
-        self.content().as_ptr()
-    }
-
+    /// Where the lent part starts. The pointer may write all of the larger buffer, so that a call that does so is seen.
     pub fn as_mut_ptr(&mut self) -> *mut T {
-        let length = self.len();
-        self.whole[usize::from(GUARDS)..][..length].as_mut_ptr()
+        self.whole.as_mut_ptr().wrapping_add(usize::from(GUARDS))
     }
 
     pub fn content(&self) -> &[T] {
@@ -46,5 +44,17 @@ impl<T: Copy + PartialEq + From<u8>> Lent<T> {
             let at = usize::from(place);
             before[at] == Self::guard(place) && after[at] == Self::guard(place)
         })
+    }
+}
+
+/// The check can fail: another value at any place around a buffer is noticed.
+pub fn guards_notice_every_change(_: &Comparison) {
+    let content = [7u32; 5];
+    assert!(Lent::new(&content).guards_stand());
+    let guards = usize::from(GUARDS);
+    for place in (0..guards).chain(guards + content.len()..2 * guards + content.len()) {
+        let mut lent = Lent::new(&content);
+        lent.whole[place] ^= 1;
+        assert!(!lent.guards_stand(), "a change at {place} is not noticed");
     }
 }

@@ -2,10 +2,11 @@
 //! are not refused lend one and the same y.
 
 use crate::calls;
-use crate::comparison;
-use crate::coverage::Coverage;
+use crate::comparison::Comparison;
+use crate::coverage::{at_every_degree, refused, Coverage, DRAW_REFUSALS, RESPOND_REFUSALS};
 use crate::model::Session;
 use crate::random::Random;
+use crate::run;
 
 #[derive(Default)]
 struct Coverages {
@@ -15,87 +16,99 @@ struct Coverages {
     steps: Coverage,
 }
 
-#[test]
-fn lists_of_calls_are_the_models() {
+pub fn lists_of_calls_are_the_models(comparison: &Comparison) {
     let mut coverages = Coverages::default();
-    for seed in comparison::seeds(40) {
-        compare_list_of_calls(seed, &mut coverages);
+    for seed in run::seeds(20) {
+        compare_list_of_calls(comparison, seed, &mut coverages);
+        comparison.count_list();
     }
     coverages.draws.print("draws in lists of calls");
     coverages.responses.print("responses in lists of calls");
     coverages.steps.print("steps in lists of calls");
-    if comparison::is_whole_run() {
-        let drawn = ["full, y drawn before", "spent, y drawn before", "refused, y drawn", "refusal 1"];
-        coverages.draws.require(drawn.map(String::from));
-        let refused = [1, 2, 4, 6, 7, 8, 9, 10, 11].map(|refusal| format!("refusal {refusal}"));
-        coverages.responses.require(refused);
-        coverages
-            .responses
-            .require(["accepted", "rejected by word 1 alone", "rejected by the cosh test alone"].map(String::from));
-        let befores = ["opened", "full", "spent", "accepted", "rejected"];
-        let afters = ["full", "spent", "response refused"];
-        coverages.steps.require(befores.iter().flat_map(|before| afters.map(|after| step(before, after))));
-        coverages.steps.require(["accepted", "rejected"].map(|after| step("full", after)));
-    }
+    coverages.draws.require(DRAW_REFUSALS.map(refused));
+    coverages.draws.require(at_every_degree(&["full", "spent"]));
+    coverages.responses.require(RESPOND_REFUSALS.map(refused));
+    coverages.responses.require(at_every_degree(&["accepted", "rejected"]));
+    coverages.steps.require(every_step());
+}
+
+/// After each call, each that can follow it.
+fn every_step() -> Vec<String> {
+    let befores = ["opened", "full", "spent", "accepted", "rejected"];
+    let afters = ["full", "spent", "draw refused", "response refused"];
+    let steps = befores.iter().flat_map(|before| afters.map(|after| step(before, after)));
+    steps.chain(["accepted", "rejected"].map(|after| step("full", after))).collect()
 }
 
 fn step(before: &str, after: &str) -> String {
     format!("{before}, then {after}")
 }
 
-fn compare_list_of_calls(seed: u64, coverages: &mut Coverages) {
+/// A list of calls as it runs: the session that the call before handed back, and the one y.
+struct Running<'a> {
+    comparison: &'a Comparison,
+    random: Random,
+    session: Session,
+    y: Vec<i32>,
+}
+
+fn compare_list_of_calls(comparison: &Comparison, seed: u64, coverages: &mut Coverages) {
     let mut random = Random::new(seed);
-    let degree = if random.one_in(10) { 12 } else { calls::degree(&mut random) };
-    let mut session = comparison::opening(degree);
-    let mut y: Vec<i32> = (0..2 * degree).map(|_| random.word() as i32).collect();
+    let degree = if random.one_in(10) { 12 } else { calls::degree_of_list(&mut random) };
+    let session = comparison.opening(degree);
+    let y = (0..2 * degree).map(|_| random.word() as i32).collect();
+    let calls = random.below(20);
+    let mut running = Running { comparison, random, session, y };
     let mut before = "opened";
-    for number in 0..random.below(20) {
+    for number in 0..calls {
         let origin = format!("BLISS_SEED={seed}, call {number} of the list");
-        let responds = random.below(4) < if session.drawn { 3 } else { 1 };
-        let compare = if responds { compare_respond } else { compare_draw };
-        let (after, served, next) = compare(&mut random, &origin, session, &mut y, coverages);
-        coverages.steps.see(step(before, after), 1);
-        session = next;
-        if served {
-            before = after;
+        let responds = running.random.below(4) < if running.session.drawn { 3 } else { 1 };
+        let served = if responds { running.respond(&origin, coverages) } else { running.draw(&origin, coverages) };
+        let after = served.unwrap_or(if responds { "response refused" } else { "draw refused" });
+        coverages.steps.count(step(before, after), 1);
+        before = served.unwrap_or(before);
+    }
+}
+
+impl Running<'_> {
+    /// Draws, and says what became of it, if it was served.
+    fn draw(&mut self, origin: &str, coverages: &mut Coverages) -> Option<&'static str> {
+        let random = &mut self.random;
+        let mut call = calls::draw::right(random, self.y.len() / 2);
+        call.session = self.session;
+        let refusal = random.pick(&[0, 0, 0, 0, 0, 0, 0, 0, 2, 3, 4, 5, 7, 8]);
+        // One that is to be refused lends a y of its own.
+        if refusal == 0 || !calls::draw::spoil(random, &mut call, refusal) {
+            call.y.clone_from(&self.y);
         }
+        let drawn = self.comparison.draw(&origin, &call);
+        coverages.draws.count_draw(&call, &drawn);
+        self.session = drawn.session;
+        if drawn.answer.refusal != 0 {
+            return None;
+        }
+        self.y = drawn.y;
+        Some(if self.session.drawn { "full" } else { "spent" })
     }
-}
 
-/// What became of a call, whether it was served, and the next session.
-type Step = (&'static str, bool, Session);
-
-fn compare_draw(random: &mut Random, origin: &str, session: Session, y: &mut Vec<i32>, coverages: &mut Coverages) -> Step {
-    let mut call = calls::draw::right(random, y.len() / 2);
-    call.session = session;
-    call.y.clone_from(y);
-    let refusal = random.pick(&[0, 0, 0, 0, 0, 0, 0, 0, 2, 3, 4, 5, 7, 8]);
-    if refusal != 0 {
-        calls::draw::spoil(random, &mut call, refusal);
+    /// Responds, and says what became of it, if it was served.
+    fn respond(&mut self, origin: &str, coverages: &mut Coverages) -> Option<&'static str> {
+        let random = &mut self.random;
+        let degree = self.y.len() / 2;
+        let challenge = calls::respond::challenge(random, degree);
+        let mut call = calls::respond::over(random, degree, &challenge, &self.y);
+        call.session = self.session;
+        let refusal = random.pick(&[0, 0, 0, 0, 0, 0, 0, 0, 2, 4, 6, 7, 8, 10, 11]);
+        if refusal != 0 {
+            calls::respond::spoil(random, &mut call, refusal);
+        }
+        let responded = self.comparison.respond(&origin, &call);
+        coverages.responses.count_respond(&call, &responded);
+        self.session = responded.session;
+        if responded.answer.refusal != 0 {
+            return None;
+        }
+        self.y = responded.y;
+        Some(if responded.answer.bit { "accepted" } else { "rejected" })
     }
-    let drawn = comparison::draw(&origin, &call);
-    coverages.draws.count_draw(&call, &drawn, &[]);
-    if drawn.answer.refusal != 0 {
-        return ("draw refused", false, drawn.session);
-    }
-    *y = drawn.y;
-    (if drawn.session.drawn { "full" } else { "spent" }, true, drawn.session)
-}
-
-fn compare_respond(random: &mut Random, origin: &str, session: Session, y: &mut Vec<i32>, coverages: &mut Coverages) -> Step {
-    let degree = y.len() / 2;
-    let challenge = calls::respond::challenge(random, degree);
-    let mut call = calls::respond::over(random, degree, &challenge, y);
-    call.session = session;
-    let refusal = random.pick(&[0, 0, 0, 0, 0, 0, 0, 0, 2, 4, 6, 7, 8, 10, 11]);
-    if refusal != 0 {
-        calls::respond::spoil(random, &mut call, refusal);
-    }
-    let responded = comparison::respond(&origin, &call);
-    coverages.responses.count_respond(&call, &responded, &[]);
-    if responded.answer.refusal != 0 {
-        return ("response refused", false, responded.session);
-    }
-    *y = responded.y;
-    (if responded.answer.bit { "accepted" } else { "rejected" }, true, responded.session)
 }

@@ -1,25 +1,27 @@
 //! Single respond calls.
 
-use crate::calls;
-use crate::comparison::{self, DEFAULT_SEED};
-use crate::coverage::{Coverage, RESPOND_REFUSALS};
-use crate::model::respond::{Call, Responded};
+use crate::calls::respond::{GREATEST_KEY, GREATEST_Y};
+use crate::calls::{self, DEGREES};
+use crate::comparison::Comparison;
+use crate::coverage::{at_every_degree, every_refusal, Coverage, RESPOND_REFUSALS};
+use crate::model::respond::{product, Call, Responded, Response};
 use crate::model::{Session, POLYNOMIAL};
 use crate::random::Random;
+use crate::run::{self, DEFAULT_SEED};
 
-#[test]
-fn responses_are_the_models() {
+pub fn responses_are_the_models(comparison: &Comparison) {
     let mut coverage = Coverage::default();
-    for seed in comparison::seeds(1) {
+    for seed in run::seeds(1) {
         let (call, reasons) = calls::respond::any(&mut Random::new(seed));
-        let responded = comparison::respond(&format!("BLISS_SEED={seed}"), &call);
+        let responded = comparison.respond(&format!("BLISS_SEED={seed}"), &call);
         assert_eq!(responded.answer.refusal, calls::first(&reasons), "BLISS_SEED={seed}: the call is not as it was made");
-        coverage.count_respond(&call, &responded, &reasons);
+        coverage.count_respond(&call, &responded);
+        coverage.count_reasons(&reasons, &RESPOND_REFUSALS);
     }
-    coverage.print("single responses");
-    if comparison::is_whole_run() {
-        coverage.require_every_case(&RESPOND_REFUSALS);
-    }
+    coverage.print("responses");
+    coverage.require_what_is_counted();
+    coverage.require(every_refusal(&RESPOND_REFUSALS));
+    coverage.require(at_every_degree(&["accepted", "rejected"]));
 }
 
 /// A call with this key and y, the challenge 0 and all words 0: the product is the key.
@@ -36,8 +38,8 @@ fn plain(degree: usize, key: Vec<i32>, y: Vec<i32>) -> Call {
     }
 }
 
-fn is_accepted(name: &str, call: &Call) -> bool {
-    let Responded { answer, z, .. } = comparison::respond(&name, call);
+fn is_accepted(comparison: &Comparison, name: &str, call: &Call) -> bool {
+    let Responded { answer, z, .. } = comparison.respond(&name, call);
     assert_eq!(answer.refusal, 0, "{name} is refused");
     assert!(answer.bit || z.iter().all(|&value| value == 0), "{name} leaves z");
     answer.bit
@@ -45,8 +47,8 @@ fn is_accepted(name: &str, call: &Call) -> bool {
 
 /// Document 01's known points: A = 46,225 may pass, 46,226 never; Z = 165,688,384 may pass, 165,688,385 never; e = 0 passes no
 /// word 2.
-#[test]
-fn the_limits_of_a_response_are_the_models() {
+pub fn the_limits_of_a_response_are_the_models(comparison: &Comparison) {
+    let is_accepted = |name: &str, call: &Call| is_accepted(comparison, name, call);
     // 943 × 49 + 18 = 46,225.
     let mut key = vec![7; 943];
     key.extend([3, -3]);
@@ -64,25 +66,55 @@ fn the_limits_of_a_response_are_the_models() {
     y.resize(1024, 0);
     assert!(is_accepted("Z = 165,688,384", &plain(512, zero.clone(), y.clone())));
     *y.last_mut().unwrap() = -1;
-    assert!(!is_accepted("Z = 165,688,385", &plain(512, zero, y)));
+    assert!(!is_accepted("Z = 165,688,385", &plain(512, zero.clone(), y)));
+
+    // 542 × 2,815² + 193² + 9² + 4² = 2^32.
+    let mut y = vec![2815; 542];
+    y.extend([193, 9, -4]);
+    y.resize(1024, 0);
+    assert!(!is_accepted("Z = 2^32", &plain(512, zero, y)));
+}
+
+/// The greatest keys, 64 positions and the greatest y, with the noise along the product: A, Z and I as great as they come.
+pub fn the_greatest_sums_are_the_models(comparison: &Comparison) {
+    let mut greatest = (0, 0, 0);
+    for n in [64, 128, 256, 512, 1024] {
+        for challenge in [(0..64).collect(), (n - 64..n).collect(), (0..n).step_by(n as usize / 64).collect::<Vec<u32>>()] {
+            for (key, y_sign, word_0) in [(GREATEST_KEY, 1, 0), (-GREATEST_KEY, 1, 1), (GREATEST_KEY, -1, u64::MAX)] {
+                let call = along_the_product(n as usize, &challenge, key, y_sign * GREATEST_Y, word_0);
+                let responded = comparison.respond(&format!("n = {n}, challenge {challenge:?}, key of {key}"), &call);
+                let Response { product_squares: a, response_squares: z, inner, .. } = responded.response.unwrap();
+                greatest = (a.max(greatest.0), z.max(greatest.1), inner.abs().max(greatest.2));
+            }
+        }
+    }
+    let (a, z, inner) = greatest;
+    assert!(a > 390_000_000 && z > 21_000_000_000 && inner > 1 << 31, "the sums are not great: {a}, {z}, {inner}");
+}
+
+/// A call with a key of one value, and y of one size, with the signs of the product or against them.
+fn along_the_product(n: usize, challenge: &[u32], key: i32, y: i32, word_0: u64) -> Call {
+    let key = vec![key; 2 * n];
+    let along = product(&key, challenge).iter().map(|&value| if value < 0 { -y } else { y }).collect();
+    let mut call = with_challenge(&plain(n, key, along), challenge).1;
+    call.words[0] = word_0;
+    call
 }
 
 /// Each value and each length that is checked, spoilt alone, and each end of what is served.
-#[test]
-fn each_check_alone_is_the_models() {
+pub fn each_check_alone_is_the_models(comparison: &Comparison) {
     let mut random = Random::new(DEFAULT_SEED);
-    let right = calls::respond::over(&mut random, 4, &[1], &[2815, -2815, 0, 1, -1, 2, 215, -215]);
-    let larger = plain(128, vec![1; 256], vec![0; 256]);
-    let positions: Vec<u32> = (63..128).collect();
-    let spoilt = spoilt_in_one_place(&right).into_iter().chain([with_challenge(&larger, &positions)]);
-    for (name, call) in spoilt {
-        let responded = comparison::respond(&name, &call);
-        assert_ne!(responded.answer.refusal, 0, "{name} is served");
-    }
-    let served = served_at_an_end(&right).into_iter().chain([with_challenge(&larger, &positions[1..])]);
-    for (name, call) in served {
-        let responded = comparison::respond(&name, &call);
-        assert_eq!(responded.answer.refusal, 0, "{name} is refused");
+    for n in DEGREES {
+        let y: Vec<i32> = [2815, -2815, 0, 1, -1, 2, 215, -215].repeat(n / 4);
+        let right = calls::respond::over(&mut random, n, &[1], &y);
+        for (name, call) in spoilt_in_one_place(&right).into_iter().chain(with_wrong_challenges(&right)) {
+            let responded = comparison.respond(&format!("n = {n}, {name}"), &call);
+            assert_ne!(responded.answer.refusal, 0, "n = {n}, {name} is served");
+        }
+        for (name, call) in served_at_an_end(&right) {
+            let responded = comparison.respond(&format!("n = {n}, {name}"), &call);
+            assert_eq!(responded.answer.refusal, 0, "n = {n}, {name} is refused");
+        }
     }
 }
 
@@ -100,12 +132,24 @@ fn with_challenge(right: &Call, challenge: &[u32]) -> (String, Call) {
     (format!("challenge {challenge:?}"), call)
 }
 
-fn served_at_an_end(right: &Call) -> Vec<(String, Call)> {
-    let mut served = Vec::new();
-    for challenge in [&[0][..], &[3], &[0, 3], &[0, 1, 2, 3]] {
-        served.push(with_challenge(right, challenge));
+/// All places of a small vector, and of a larger one those at the ends of its halves.
+fn places(n: usize) -> Vec<usize> {
+    if n == 4 {
+        (0..8).collect()
+    } else {
+        vec![0, n - 1, n, 2 * n - 1]
     }
-    for place in 0..8 {
+}
+
+fn served_at_an_end(right: &Call) -> Vec<(String, Call)> {
+    let n = right.session.degree;
+    let last = n as u32 - 1;
+    let most = n.min(64) as u32;
+    let mut served = vec![("nothing spoilt".into(), right.clone())];
+    for challenge in [vec![0], vec![last], vec![0, last], (0..most).collect(), (n as u32 - most..n as u32).collect()] {
+        served.push(with_challenge(right, &challenge));
+    }
+    for place in places(n) {
         for value in [-7, 7] {
             served.push((format!("key value {place} at {value}"), changed(right, |call| call.key[place] = value)));
         }
@@ -113,14 +157,22 @@ fn served_at_an_end(right: &Call) -> Vec<(String, Call)> {
             served.push((format!("y value {place} at {value}"), changed(right, |call| call.y[place] = value)));
         }
     }
-    served.push(("55 entries".into(), changed(right, |call| call.list.resize(55, 0))));
-    served.push(("3 words".into(), changed(right, |call| call.words.truncate(3))));
+    for length in [2 * n + 47, 2 * n + 48] {
+        served.push((format!("list of {length}"), changed(right, |call| call.list.resize(length, 0))));
+    }
+    for length in [3, 4] {
+        served.push((format!("{length} words"), changed(right, |call| call.words.resize(length, 0))));
+    }
     served
 }
 
 fn spoilt_in_one_place(right: &Call) -> Vec<(String, Call)> {
+    let n = right.session.degree;
     let mut spoilt = Vec::new();
     let mut add = |name: String, spoil: &dyn Fn(&mut Call)| spoilt.push((name, changed(right, spoil)));
+    for degree in [0, n - 1, n + 1, 2048, n + (1 << 32), n + (1 << 63)] {
+        add(format!("degree {degree}"), &|call| call.session.degree = degree);
+    }
     for place in 0..21 {
         add(format!("entry {place} too great"), &|call| call.polynomial[place] += 1);
         add(format!("entry {place} too small"), &|call| call.polynomial[place] -= 1);
@@ -128,7 +180,7 @@ fn spoilt_in_one_place(right: &Call) -> Vec<(String, Call)> {
     for length in [0, 20, 22] {
         add(format!("polynomial table of {length}"), &|call| call.polynomial.resize(length, 0));
     }
-    for length in [0, 4, 7, 9, 16] {
+    for length in [0, n, 2 * n - 1, 2 * n + 1, 4 * n] {
         add(format!("y of {length}"), &|call| call.y.resize(length, 0));
         add(format!("z of {length}"), &|call| call.z.resize(length, 0));
         add(format!("key of {length}"), &|call| call.key.resize(length, 0));
@@ -136,10 +188,10 @@ fn spoilt_in_one_place(right: &Call) -> Vec<(String, Call)> {
     for length in [0, 2] {
         add(format!("{length} words"), &|call| call.words.truncate(length));
     }
-    for length in [0, 54] {
+    for length in [0, 2 * n + 46] {
         add(format!("list of {length}"), &|call| call.list.truncate(length));
     }
-    for place in 0..8 {
+    for place in places(n) {
         for value in [8, -8, 256, i32::MAX, i32::MIN] {
             add(format!("key value {place} at {value}"), &|call| call.key[place] = value);
         }
@@ -148,10 +200,32 @@ fn spoilt_in_one_place(right: &Call) -> Vec<(String, Call)> {
         }
     }
     add("nothing drawn".into(), &|call| call.session.drawn = false);
-    for challenge in
-        [&[][..], &[4], &[u32::MAX], &[2, 2], &[3, 2], &[0, 1, 2, 4], &[0, 1, 1, 3], &[0, 1, 2, 3, 3], &[0, 1, 2, 3, 4]]
-    {
-        spoilt.push(with_challenge(right, challenge));
-    }
+    add("all slices empty".into(), &|call| *call = with_nothing_lent(call.session));
     spoilt
+}
+
+fn with_nothing_lent(session: Session) -> Call {
+    let (challenge, polynomial, words, list) = (vec![], vec![], vec![], vec![]);
+    Call { session, challenge, polynomial, words, key: vec![], y: vec![], z: vec![], list }
+}
+
+/// Each with a list that is long enough for it.
+fn with_wrong_challenges(right: &Call) -> Vec<(String, Call)> {
+    let n = right.session.degree as u32;
+    let most = n.min(64);
+    let twice: Vec<u32> = (0..most - 1).chain([most - 2]).collect();
+    let beyond: Vec<u32> = (0..most - 1).chain([n]).collect();
+    let challenges = [
+        vec![],
+        vec![n],
+        vec![n + 1],
+        vec![u32::MAX],
+        vec![2, 2],
+        vec![3, 2],
+        vec![1, 0, 2],
+        (0..=most).collect(),
+        twice,
+        beyond,
+    ];
+    challenges.iter().map(|challenge| with_challenge(right, challenge)).collect()
 }
