@@ -1,0 +1,175 @@
+//! `bliss-box demo`: a draw and a response with a toy key, and a picture of the noise.
+
+mod picture;
+
+use std::time::{Duration, Instant};
+
+use bliss_box::{draw_limit, sample_count, word_count, Counts, OwnedDraw, OwnedResponse, Secret, Session};
+use bliss_box::{CDT, POLYNOMIAL, RESPOND_WORDS};
+
+use crate::arguments::{Arguments, Command, Operands};
+use crate::draw;
+use crate::ending::{Failure, Status};
+use crate::list::PLACES;
+use crate::output;
+use crate::words::Words;
+use picture::Picture;
+
+pub const COMMAND: Command = Command { name: "demo", options: &["--degree"], operands: Operands::None, help: HELP, run };
+
+const HELP: &str = "\
+bliss-box demo [--degree N]
+
+Draws the noise of one signature from the system's random words, and answers a challenge with it and
+a toy key. Shows the noise beside what is expected of it, the counts, the times, and what was
+listed.
+
+    --degree N    the degree: a power of two from 4 to 1024 (512)
+";
+
+const INTRODUCTION: &str = "\
+A BLISS-I signature hides its key behind noise: random whole numbers around 0, each of which must
+come up just as often as the rules say. This is noise that the box drew for one signature, counted
+range by range: a bar of # for the samples drawn, and a | at the exact count that is expected.
+";
+
+const LISTED: &str = "\
+The box listed every place that it read. Whoever reads the list learns the degree, which attempts
+were accepted, the challenge and the bit of the response, but no word, no noise and no key value:
+";
+
+/// What an entry of each kind tells, in the order of the kinds.
+const KINDS: [&str; 9] = [
+    "the degree of the draw",
+    "the place of a random word that was read",
+    "the place of a word of the CDT, the table of thresholds, that was read",
+    "the place of a word of the polynomial table that was read",
+    "the samples accepted before an attempt",
+    "the samples accepted in all",
+    "the degree of the response",
+    "the place of a key value that was read",
+    "the bit: whether the response was accepted",
+];
+
+/// The positions of a challenge of BLISS-I.
+const POSITIONS: usize = 23;
+
+/// The values of the response that are shown.
+const VALUES: usize = 8;
+
+/// What is shown of the try that was accepted.
+struct Shown {
+    counts: Counts,
+    picture: Picture,
+    deviation: f64,
+    draw_time: Duration,
+    z: Vec<i32>,
+    respond_time: Duration,
+    list: Vec<u32>,
+}
+
+fn run(arguments: &Arguments) -> Result<Status, Failure> {
+    let mut session = draw::open(arguments)?;
+    let mut tries = 0;
+    let shown = loop {
+        let (next, shown) = try_once(session, tries)?;
+        session = next;
+        tries += 1;
+        if let Some(shown) = shown {
+            break shown;
+        }
+    };
+    output::print(shown.text(session.degree(), tries))?;
+    Ok(Status::Served)
+}
+
+/// One try. A spent draw has no noise to respond with, so it is a try that fails.
+fn try_once(session: Session, number: usize) -> Result<(Session, Option<Shown>), Failure> {
+    let (drawn, draw_time) = timed_draw(session)?;
+    let counts = drawn.answer?;
+    if !drawn.session.is_drawn() {
+        return Ok((drawn.session, None));
+    }
+    // The response wipes the noise, so what is shown of it is worked out before.
+    let (picture, deviation) = (Picture::of(&drawn.y), deviation(&drawn.y));
+    let (responded, respond_time) = timed_response(drawn.session, drawn.y, number)?;
+    let bit = responded.answer?.bit;
+    let list = [drawn.list, responded.list].concat();
+    let shown = Shown { counts, picture, deviation, draw_time, z: responded.z, respond_time, list };
+    Ok((responded.session, bit.then_some(shown)))
+}
+
+fn timed_draw(session: Session) -> Result<(OwnedDraw, Duration), Failure> {
+    let limit = draw_limit(session.degree());
+    let words = Words::System.take(word_count(limit), "a draw")?;
+    let start = Instant::now();
+    let drawn = session.draw_owned(limit, &CDT, &POLYNOMIAL, words);
+    Ok((drawn, start.elapsed()))
+}
+
+fn timed_response(session: Session, y: Secret<i32>, number: usize) -> Result<(OwnedResponse, Duration), Failure> {
+    let n = session.degree();
+    let (key, challenge) = (toy_key(n), toy_challenge(n, number));
+    let words = Words::System.take(RESPOND_WORDS, "a response")?;
+    let start = Instant::now();
+    let responded = session.respond_owned(&challenge, &POLYNOMIAL, words, &key, y);
+    Ok((responded, start.elapsed()))
+}
+
+/// A key of small values, nearly half of them 0, and nobody's.
+fn toy_key(n: usize) -> Vec<i32> {
+    const KEY_VALUES: [i32; 7] = [1, 0, -1, 0, 2, 0, -1];
+    (0..sample_count(n)).map(|i| KEY_VALUES[i * i % 101 % 7]).collect()
+}
+
+/// In a signature the challenge is a hash of the message and of what the noise commits to: another one for each try.
+fn toy_challenge(n: usize, number: usize) -> Vec<u32> {
+    let step = n / POSITIONS.min(n);
+    (0..POSITIONS.min(n)).map(|i| (i * step + number % step) as u32).collect()
+}
+
+/// The root of the mean square.
+fn deviation(samples: &[i32]) -> f64 {
+    let squares: f64 = samples.iter().map(|sample| f64::from(*sample).powi(2)).sum();
+    (squares / samples.len() as f64).sqrt()
+}
+
+fn shown_time(time: Duration) -> String {
+    format!("{:.3} ms", 1000.0 * time.as_secs_f64())
+}
+
+impl Shown {
+    fn text(&self, n: usize, tries: usize) -> String {
+        let Counts { attempts, accepted, entries: _ } = self.counts;
+        let (limit, positions) = (draw_limit(n), POSITIONS.min(n));
+        let give_or_take = 215.0 / (2.0 * accepted as f64).sqrt();
+        let values: Vec<String> = self.z.iter().take(VALUES).map(i32::to_string).collect();
+        let lines = [
+            INTRODUCTION.into(),
+            self.picture.text(),
+            format!("degree     {n}"),
+            format!(
+                "draw       full: {accepted} samples in {attempts} of at most {limit} attempts, {}",
+                shown_time(self.draw_time)
+            ),
+            format!("deviation  {:.1}, where 215 is expected, give or take {give_or_take:.1}", self.deviation),
+            format!("response   accepted at try {tries} (about 61 of 100 tries are), {}", shown_time(self.respond_time)),
+            format!("           a toy key, and a challenge of {positions} positions"),
+            format!("           {}, ..", values.join(", ")),
+            format!("read list  {} entries\n", self.list.len()),
+            LISTED.into(),
+            listed(&self.list),
+        ];
+        lines.join("\n")
+    }
+}
+
+/// The entries of each kind, counted and explained.
+fn listed(list: &[u32]) -> String {
+    let mut text = String::from("    kind  entries  each tells\n");
+    for (kind, told) in (1..).zip(KINDS) {
+        let count = list.iter().filter(|entry| *entry / PLACES == kind).count();
+        text += &format!("    {kind:>4}  {count:>7}  {told}\n");
+    }
+    text
+}

@@ -1,0 +1,153 @@
+//! A picture of noise in the terminal: how many samples fall in each range, beside the counts that are expected. Floats serve the
+//! picture alone: the box has none.
+
+use bliss_box::{exponential, CDT};
+
+/// The values in a range. The number is odd, so that 0 is in the middle of the middle range.
+const WIDTH: i32 = 65;
+
+/// The ranges on each side of the middle one. The outermost two have no end.
+const SIDE: i32 = 10;
+
+const RANGES: usize = 2 * SIDE as usize + 1;
+
+/// The columns of the longest bar.
+const COLUMNS: f64 = 56.0;
+
+/// The units in 1.
+const ONE: f64 = (1u64 << 62) as f64;
+
+/// The counts of samples, range by range.
+pub struct Picture([usize; RANGES]);
+
+impl Picture {
+    pub fn of(samples: &[i32]) -> Picture {
+        let mut counts = [0; RANGES];
+        for sample in samples {
+            counts[range_of(*sample)] += 1;
+        }
+        Picture(counts)
+    }
+
+    /// A line for each range: its ends, its count, the expected count, and both as a bar and a mark.
+    pub fn text(&self) -> String {
+        let expected = expected(self.0.iter().sum());
+        let longest = expected.iter().copied().chain(self.0.iter().map(|count| *count as f64)).fold(0.0, f64::max);
+        let mut text = String::from("         samples   drawn  expected\n");
+        for (range, (drawn, expected)) in self.0.iter().zip(expected).enumerate() {
+            let bar = bar(*drawn as f64 / longest, expected / longest);
+            text += &format!("{:>16}  {drawn:>6}  {expected:>8.1}  {bar}\n", name(range));
+        }
+        text
+    }
+}
+
+fn range_of(sample: i32) -> usize {
+    let from_middle = (sample + WIDTH / 2).div_euclid(WIDTH).clamp(-SIDE, SIDE);
+    (from_middle + SIDE) as usize
+}
+
+/// The ends of a range in words.
+fn name(range: usize) -> String {
+    let middle = WIDTH * (range as i32 - SIDE);
+    let (first, last) = (middle - WIDTH / 2, middle + WIDTH / 2);
+    match range {
+        0 => format!("up to {last}"),
+        _ if range == RANGES - 1 => format!("from {first} on"),
+        _ => format!("{first} to {last}"),
+    }
+}
+
+/// A bar as long as the drawn count, with a mark where the expected one ends. Both are parts of the longest.
+fn bar(drawn: f64, expected: f64) -> String {
+    let [length, mark] = [drawn, expected].map(|part| (part * COLUMNS).round() as usize);
+    let column = |i| match i {
+        _ if i == mark => '|',
+        _ if i < length => '#',
+        _ => ' ',
+    };
+    (0..length.max(mark + 1)).map(column).collect()
+}
+
+/// The exact expected counts of so many samples, up to the rounding of floats.
+fn expected(samples: usize) -> [f64; RANGES] {
+    let mut weights = [0.0; RANGES];
+    for (sample, weight) in weights_of_samples() {
+        weights[range_of(sample)] += weight;
+    }
+    let all: f64 = weights.iter().sum();
+    weights.map(|weight| samples as f64 * weight / all)
+}
+
+/// Each sample that can be drawn, with its weight: 512 times the chance that an attempt draws and accepts it, since each sign and
+/// each low byte comes with a chance of 1 / 512. A size comes with both signs, but 0 with one alone.
+fn weights_of_samples() -> Vec<(i32, f64)> {
+    let mut weights = Vec::new();
+    for (x, base) in chances_of_base_samples().into_iter().enumerate() {
+        for b in 0..256 {
+            let e = exponential((b * (b + 512 * x)) as u64).expect("the largest size is far from the limit of e");
+            let (size, weight) = ((256 * x + b) as i32, base * e as f64 / ONE);
+            weights.push((size, weight));
+            if size > 0 {
+                weights.push((-size, weight));
+            }
+        }
+    }
+    weights
+}
+
+/// The chances of the base samples 0 to 10: the steps from one threshold to the next.
+fn chances_of_base_samples() -> [f64; 11] {
+    let mut thresholds = [0; 12];
+    for (threshold, words) in thresholds[1..].iter_mut().zip(CDT.chunks_exact(2)) {
+        *threshold = (u128::from(words[0]) << 62) + u128::from(words[1]);
+    }
+    thresholds[11] = 1 << 124;
+    let mut chances = [0.0; 11];
+    for (x, chance) in chances.iter_mut().enumerate() {
+        *chance = (thresholds[x + 1] - thresholds[x]) as f64 / ONE / ONE;
+    }
+    chances
+}
+
+#[cfg(test)]
+mod tests {
+    use super::*;
+
+    #[test]
+    fn every_sample_has_its_range() {
+        assert_eq!([-2815, -683, -618, -617, -33].map(range_of), [0, 0, 0, 1, 9]);
+        assert_eq!([-32, 0, 32].map(range_of), [10, 10, 10]);
+        assert_eq!([33, 617, 618, 683, 2815].map(range_of), [11, 19, 20, 20, 20]);
+        assert_eq!([0, 1, 10, 19, 20].map(name), ["up to -618", "-617 to -553", "-32 to 32", "553 to 617", "from 618 on"]);
+    }
+
+    #[test]
+    fn weights_are_those_of_the_noise() {
+        let weights = weights_of_samples();
+        assert_eq!(weights.len(), 2 * 2816 - 1);
+        let all: f64 = weights.iter().map(|(_, weight)| weight).sum();
+        assert!((all / 512.0 - 0.677956).abs() < 5e-7);
+        let squares: f64 = weights.iter().map(|(sample, weight)| f64::from(*sample).powi(2) * weight).sum();
+        assert!(((squares / all).sqrt() - 215.0).abs() < 0.001);
+        let of = |wanted| weights.iter().filter(|(sample, _)| *sample == wanted).map(|(_, weight)| weight).sum::<f64>();
+        assert!((of(0) / of(1) - 1.0).abs() < 0.0001, "0 weighs as much as 1, and not twice as much");
+    }
+
+    #[test]
+    fn expected_counts_add_up() {
+        let counts = expected(1024);
+        assert!((counts.iter().sum::<f64>() - 1024.0).abs() < 1e-6);
+        for range in 0..RANGES {
+            assert!((counts[range] - counts[RANGES - 1 - range]).abs() < 1e-9, "both sides are alike");
+        }
+    }
+
+    #[test]
+    fn bars_have_their_mark_where_the_expected_count_ends() {
+        assert_eq!(bar(4.0 / COLUMNS, 2.0 / COLUMNS), "##|#");
+        assert_eq!(bar(2.0 / COLUMNS, 4.0 / COLUMNS), "##  |");
+        assert_eq!(bar(3.0 / COLUMNS, 3.0 / COLUMNS), "###|");
+        assert_eq!(bar(0.0, 0.0), "|");
+    }
+}

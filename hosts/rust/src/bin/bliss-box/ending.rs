@@ -1,0 +1,59 @@
+//! How a command ends: its exit status, and why it could not do what was asked.
+
+use std::fmt;
+
+use bliss_box::Refusal;
+
+/// The exit status of the program.
+#[derive(Clone, Copy)]
+pub enum Status {
+    /// What was asked for is done: a draw is full, a response is accepted.
+    Served = 0,
+    /// The box refused, or a file or a value is bad.
+    Refused = 1,
+    /// The command line is wrong.
+    Usage = 2,
+    /// A draw is spent, or every try of a response was rejected.
+    Unserved = 3,
+}
+
+/// Why a command ends before it has printed anything.
+#[derive(Debug)]
+pub enum Failure {
+    /// A refusal of the box, or what is wrong with a file or a value.
+    Refused(String),
+    /// What is wrong with the command line.
+    Usage(String),
+}
+
+impl Failure {
+    /// A failure at a place: a file, a line of it, an option or a value.
+    pub fn at(place: impl fmt::Display, problem: impl fmt::Display) -> Failure {
+        Failure::Refused(format!("{place}: {problem}"))
+    }
+
+    /// A wrong command line of a command, whose help says what is right.
+    pub fn usage(command: &str, problem: impl fmt::Display) -> Failure {
+        Failure::Usage(format!("{problem}; see {command} --help"))
+    }
+
+    pub fn status(&self) -> Status {
+        match self {
+            Failure::Refused(_) => Status::Refused,
+            Failure::Usage(_) => Status::Usage,
+        }
+    }
+}
+
+impl From<Refusal> for Failure {
+    fn from(refusal: Refusal) -> Failure {
+        Failure::Refused(refusal.to_string())
+    }
+}
+
+impl fmt::Display for Failure {
+    fn fmt(&self, f: &mut fmt::Formatter) -> fmt::Result {
+        let (Failure::Refused(problem) | Failure::Usage(problem)) = self;
+        f.write_str(problem)
+    }
+}

@@ -1,0 +1,79 @@
+//! `bliss-box list`: explains a read list, entry by entry. It shows what the list tells to whoever reads it.
+
+mod draw;
+mod entries;
+mod response;
+#[cfg(test)]
+mod tests;
+
+use bliss_box::Session;
+
+use crate::arguments::{Arguments, Command, Operands};
+use crate::ending::{Failure, Status};
+use crate::files::Table;
+use crate::output;
+pub use entries::PLACES;
+use entries::{Entries, Entry};
+
+pub const COMMAND: Command = Command { name: "list", options: &[], operands: Operands::One("FILE"), help: HELP, run };
+
+const HELP: &str = "\
+bliss-box list FILE
+
+Explains a read list: for each entry its number in the file, its kind and place, and what it tells.
+The file holds the read list of one call, or those of a session's calls, one after another, as
+--list writes them: one entry a line, each kind * 2^24 + place.
+
+Whoever reads a read list learns the degree, which attempts were accepted, the challenge, and
+whether the response was accepted; these are printed again at the end of each call. An entry that
+cannot stand where it stands is an error. bliss-box --help says what files hold.
+";
+
+/// The kinds of entries that begin a call.
+const DRAW: u32 = 1;
+const RESPONSE: u32 = 7;
+
+fn run(arguments: &Arguments) -> Result<Status, Failure> {
+    let list = Table::read(&arguments.operands()[0])?;
+    let text = explanation(&list.numbers).map_err(|problem| Failure::at(list.name, problem))?;
+    output::print(text)?;
+    Ok(Status::Served)
+}
+
+/// A read list in words, or what is wrong with it.
+fn explanation(list: &[u32]) -> Result<String, String> {
+    let mut entries = Entries::of(list);
+    let mut degree = None;
+    // The list of a response may stand alone. In a session a response follows a full draw.
+    let mut may_respond = true;
+    while entries.next().is_some() {
+        if degree.is_some() {
+            entries.say("\n");
+        }
+        let first = beginning(&mut entries, degree, may_respond)?;
+        degree = Some(first.place);
+        may_respond = match first.kind {
+            DRAW => draw::explain(&mut entries, first.place)?,
+            _ => {
+                response::explain(&mut entries, first.place)?;
+                false
+            }
+        };
+    }
+    Ok(entries.explained())
+}
+
+/// Explains the first entry of a call. The degree is the one of the calls before, if there are any.
+fn beginning(entries: &mut Entries, degree: Option<usize>, may_respond: bool) -> Result<Entry, String> {
+    let fits = |entry: Entry| {
+        let right_degree = degree.map_or(Session::open(entry.place).is_ok(), |degree| entry.place == degree);
+        right_degree && (entry.kind == DRAW || entry.kind == RESPONSE && may_respond)
+    };
+    let place = degree.map_or("a power of two from 4 to 1024".into(), |degree| degree.to_string());
+    let response = if may_respond { format!(" or of a response, ({RESPONSE}, {place}),") } else { String::new() };
+    let expected = format!("the first entry of a draw, ({DRAW}, {place}),{response}");
+    entries.take(fits, expected, |entry| match entry.kind {
+        DRAW => format!("a draw of degree {}", entry.place),
+        _ => format!("a response of degree {}", entry.place),
+    })
+}

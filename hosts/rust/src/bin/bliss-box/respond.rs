@@ -1,0 +1,129 @@
+//! `bliss-box respond`: draws noise, and answers a challenge with it and a key.
+
+use bliss_box::{sample_count, Refusal, Session, POLYNOMIAL, RESPOND_WORDS};
+
+use crate::arguments::{Arguments, Command, Operands};
+use crate::draw::{self, Drawing};
+use crate::ending::{Failure, Status};
+use crate::files::Table;
+use crate::output;
+
+pub const COMMAND: Command = Command {
+    name: "respond",
+    options: &["--key", "--challenge", "--degree", "--limit", "--cdt", "--words", "--tries", "--list"],
+    operands: Operands::None,
+    help: HELP,
+    run,
+};
+
+const HELP: &str = "\
+bliss-box respond --key FILE --challenge FILE [--degree N] [--limit L] [--cdt FILE] [--words FILE]
+                  [--tries T] [--list FILE]
+
+Draws noise and answers the challenge with it and the key. Prints the response z, 2N values, one a
+line. A rejected response is tried again with new noise. What was counted goes to standard error,
+try by try.
+
+    --key FILE          the key: s1 and then s2, N values each, from -7 to 7
+    --challenge FILE    the positions of the challenge in ascending order, each below N: at least
+                        one, and at most 64 or N
+    --degree N          the degree: a power of two from 4 to 1024 (512)
+    --limit L           the attempts that each draw may make, as bliss-box draw has it
+    --cdt FILE          the CDT, as bliss-box draw has it
+    --words FILE        random words: each try takes the next 4L for its draw and the next 3 for its
+                        response (the system's random source)
+    --tries T           the tries that may be made (64, which all fail with a chance below 2^-64
+                        unless the product of key and challenge is too long to be accepted at all)
+    --list FILE         writes the read list of all tries there, one entry a line; - writes it to
+                        standard output in place of the response
+
+This command is for trying the box and its tables. It is not a signer: in a signature the challenge
+hashes what the noise commits to, so a signer makes a new challenge for each try.
+
+An accepted response ends with status 0. Where no try is accepted, the status is 3, and no response
+is printed. bliss-box --help says what files hold.
+";
+
+/// The tries where no number of them is given. About 0.61 of all tries are accepted, so that these fail with a chance of 2^-86.
+const TRIES: usize = 64;
+
+const NEVER_ACCEPTED: &str = "A product of key and challenge whose sum of squares is above 46225 is never accepted.";
+
+/// What the tries of a command are made with.
+struct Responding {
+    drawing: Drawing,
+    key: Table<i32>,
+    challenge: Table<u32>,
+}
+
+/// What a try came to.
+struct Try {
+    session: Session,
+    /// The response, where it is accepted.
+    z: Option<Vec<i32>>,
+    list: Vec<u32>,
+    summary: String,
+}
+
+impl Responding {
+    /// One try. A spent draw has no noise to respond with, so it is a try that fails.
+    fn once(&mut self, session: Session) -> Result<Try, Failure> {
+        let (counts, drawn) = self.drawing.draw(session)?;
+        let summary = draw::summary(counts, &drawn.session);
+        if !drawn.session.is_drawn() {
+            return Ok(Try { session: drawn.session, z: None, list: drawn.list, summary });
+        }
+        let n = drawn.session.degree();
+        let words = self.drawing.words().take(RESPOND_WORDS, "a response")?;
+        let responded = drawn.session.respond_owned(&self.challenge.numbers, &POLYNOMIAL, words, &self.key.numbers, drawn.y);
+        let outcome = responded.answer.map_err(|refusal| self.refused(refusal, n))?;
+        let end = if outcome.bit { "accepted" } else { "rejected" };
+        Ok(Try {
+            session: responded.session,
+            z: outcome.bit.then_some(responded.z),
+            list: [drawn.list, responded.list].concat(),
+            summary: format!("{summary}; response {end}: entries {}", outcome.entries),
+        })
+    }
+
+    /// A refused response, and what was wrong with what the command line gave it.
+    fn refused(&self, refusal: Refusal, n: usize) -> Failure {
+        match refusal {
+            Refusal::Lengths => Failure::at(&self.key.name, format!("{refusal}; {}", self.key.count_beside(sample_count(n)))),
+            Refusal::Key => Failure::at(&self.key.name, refusal),
+            Refusal::Challenge => Failure::at(&self.challenge.name, refusal),
+            _ => refusal.into(),
+        }
+    }
+}
+
+fn tries(arguments: &Arguments) -> Result<usize, Failure> {
+    match arguments.number("--tries")?.unwrap_or(TRIES) {
+        0 => Err(Failure::at("--tries 0", "without a try there is no response")),
+        tries => Ok(tries),
+    }
+}
+
+fn run(arguments: &Arguments) -> Result<Status, Failure> {
+    let (key, challenge) = (arguments.required("--key")?, arguments.required("--challenge")?);
+    let (tries, list_file) = (tries(arguments)?, arguments.value("--list"));
+    let mut session = draw::open(arguments)?;
+    let drawing = Drawing::of(arguments, &session)?;
+    let mut responding = Responding { drawing, key: Table::read(key)?, challenge: Table::read(challenge)? };
+    let mut list = Vec::new();
+    for number in 1..=tries {
+        let tried = responding.once(session)?;
+        session = tried.session;
+        output::say(&format!("try {number}: {}", tried.summary));
+        if list_file.is_some() {
+            list.extend(tried.list);
+        }
+        if let Some(z) = tried.z {
+            output::deliver(&z, &list, list_file)?;
+            return Ok(Status::Served);
+        }
+    }
+    output::deliver(&[], &list, list_file)?;
+    output::say(&format!("no response accepted: tries {tries}. {NEVER_ACCEPTED}"));
+    Ok(Status::Unserved)
+}
