@@ -1,0 +1,45 @@
+/* What the box must not do: functions with a jump or an address that hangs on a secret. A check of constant time must find those
+ * that it runs. */
+#ifndef LEAKS_H
+#define LEAKS_H
+
+#include "draws.h"
+
+#define LEAK __attribute__((noinline, unused)) static uint64_t
+
+/* The same value for every n, in a time that hangs on n. */
+LEAK leaking_exponential(uint64_t n)
+{
+    volatile uint64_t found = 0;
+
+    while (found < n % 16)
+        found++;
+    return found - n % 16;
+}
+
+/* An entry of a table whose place hangs on n. */
+LEAK leaking_lookup(uint64_t n)
+{
+    return polynomial[n % BLISS_POLYNOMIAL_WORDS];
+}
+
+/* A scan that ends at the first threshold above d. */
+LEAK early_exit_scan(const uint64_t *w)
+{
+    uint64_t x = 0;
+
+    while (x < 10 && threshold(x) <= two_words(w[0] << 2 >> 2, w[1] << 2 >> 2))
+        x++;
+    return x;
+}
+
+/* A check that ends at the first value out of range. */
+LEAK early_exit_check(const int32_t *values, size_t length)
+{
+    for (size_t i = 0; i < length; i++)
+        if (values[i] < -7 || values[i] > 7)
+            return 0;
+    return 1;
+}
+
+#endif

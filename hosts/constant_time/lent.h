@@ -1,0 +1,27 @@
+/* What calls with secrets lend. What is secret stands in one record, so that it can be hidden or exchanged as a whole. */
+#ifndef LENT_H
+#define LENT_H
+
+#include "bliss_box.h"
+
+enum { MOST_DEGREE = 512, MOST_ATTEMPTS = 2048, MOST_POSITIONS = 23 };
+
+static const uint64_t polynomial[BLISS_POLYNOMIAL_WORDS] = BLISS_POLYNOMIAL;
+static const uint64_t cdt[BLISS_CDT_WORDS] = BLISS_CDT_215;
+
+static struct {
+    uint64_t n;
+    uint64_t draw_words[BLISS_DRAW_WORDS(MOST_ATTEMPTS)];
+    uint64_t response_words[BLISS_RESPOND_WORDS];
+    int32_t key[BLISS_SAMPLES(MOST_DEGREE)];
+    int32_t y[BLISS_SAMPLES(MOST_DEGREE)];
+} lent;
+
+static uint32_t challenge[MOST_POSITIONS];
+static int32_t z[BLISS_SAMPLES(MOST_DEGREE)];
+
+/* Long enough for a draw, and so for a response. */
+static uint32_t list[BLISS_DRAW_ENTRIES(MOST_ATTEMPTS)];
+_Static_assert(BLISS_RESPOND_ENTRIES(MOST_DEGREE, MOST_POSITIONS) <= BLISS_DRAW_ENTRIES(MOST_ATTEMPTS), "a list for both calls");
+
+#endif

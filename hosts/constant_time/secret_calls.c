@@ -1,0 +1,205 @@
+/* Calls with secrets, whose traces are compared, and which memcheck watches: `secret_calls KIND SEED`. The seed, one character,
+ * gives the secrets. What is public of the calls of a kind is the same for every seed, and no jump or address of their preparation
+ * hangs on the seed. Prints how many calls and attempts were made. Fails where one did not come out as it was chosen: then traces
+ * would show nothing. */
+#include "bliss_box.h"
+#include "draws.h"
+#include "leaks.h"
+#include "responses.h"
+#include "secrets.h"
+
+#include <stdio.h>
+#include <string.h>
+#include <valgrind/memcheck.h>
+
+/* How often a call of a small degree is made, and one of degree 512. */
+enum { OFTEN = 16, SELDOM = 2 };
+
+static size_t calls;
+static size_t attempts;
+static bool as_chosen = true;
+static volatile uint64_t result;
+
+/* Counts a call. Memcheck takes the secrets for undefined from here on, and reports each jump and each address that hangs on
+ * them. */
+static void begin_call(void)
+{
+    (void)VALGRIND_MAKE_MEM_UNDEFINED(&lent, sizeof lent);
+    calls++;
+}
+
+/* What is public after a call is defined again. */
+static void reveal(const void *answer, size_t size)
+{
+    (void)VALGRIND_MAKE_MEM_DEFINED(answer, size);
+}
+
+static void call_exponential(uint64_t n, bool refused)
+{
+    uint64_t e;
+
+    lent.n = n;
+    begin_call();
+    e = bliss_exponential(lent.n);
+    reveal(&e, sizeof e);
+    as_chosen &= (e == BLISS_EXPONENTIAL_REFUSED) == refused;
+}
+
+static void exponential(void)
+{
+    for (int i = 0; i < 200; i++)
+        call_exponential(secret_at_edges(BLISS_EXPONENTIAL_LIMIT + 1), false);
+}
+
+static void refused_12(void)
+{
+    for (int i = 0; i < 200; i++)
+        call_exponential(BLISS_EXPONENTIAL_LIMIT + 1 + secret_at_edges(UINT64_MAX - BLISS_EXPONENTIAL_LIMIT), true);
+}
+
+static void call_draw(struct draw draw)
+{
+    size_t accepted = prepare_draw(draw);
+    bliss_drawn drawn;
+
+    begin_call();
+    drawn = made_draw(draw);
+    reveal(&drawn, sizeof drawn);
+    attempts += drawn.answer.attempts;
+    as_chosen &= drawn.answer.refusal == BLISS_SERVED && drawn.answer.accepted == accepted &&
+                 drawn.session.drawn == (draw.most == BLISS_SAMPLES(draw.n));
+}
+
+/* Full before the limit, or with its last attempt. */
+static void draw_full(void)
+{
+    for (uint64_t i = 0; i < OFTEN; i++) {
+        call_draw((struct draw){4, 128, 8, 11, i});
+        call_draw((struct draw){4, 8, 8, 16, i});
+    }
+    call_draw((struct draw){512, 2048, 1024, 11, 0});
+}
+
+/* Spent with fewer samples, or with one too few. */
+static void draw_spent(void)
+{
+    for (uint64_t i = 0; i < OFTEN; i++) {
+        call_draw((struct draw){4, 20, 4, 5, i});
+        call_draw((struct draw){4, 40, 7, 11, i});
+    }
+    call_draw((struct draw){512, 1024, 1023, 11, 0});
+}
+
+static void call_respond(struct response r)
+{
+    bliss_responded responded;
+
+    prepare_response(r);
+    begin_call();
+    responded = made_response(r);
+    reveal(&responded, sizeof responded);
+    as_chosen &= responded.answer.refusal == r.refusal && responded.answer.bit == r.bit;
+}
+
+static void respond(uint64_t bit, uint32_t refusal)
+{
+    for (uint64_t i = 0; i < OFTEN; i++) {
+        call_respond((struct response){4, 4, bit, refusal, i});
+        call_respond((struct response){8, 3, bit, refusal, i});
+        call_respond((struct response){16, 16, bit, refusal, i});
+    }
+    for (uint64_t i = 0; i < SELDOM; i++)
+        call_respond((struct response){512, 23, bit, refusal, i});
+}
+
+static void accepted(void)
+{
+    respond(1, BLISS_SERVED);
+}
+
+static void rejected(void)
+{
+    respond(0, BLISS_SERVED);
+}
+
+static void refused_9(void)
+{
+    respond(0, BLISS_REFUSED_NOT_DRAWN);
+}
+
+static void refused_10(void)
+{
+    respond(0, BLISS_REFUSED_KEY);
+}
+
+static void refused_11(void)
+{
+    respond(0, BLISS_REFUSED_Y);
+}
+
+static void leaking_n(void)
+{
+    for (int i = 0; i < OFTEN; i++) {
+        lent.n = secret_word();
+        begin_call();
+        result = leaking_exponential(lent.n);
+    }
+}
+
+static void leaking_place(void)
+{
+    for (int i = 0; i < OFTEN; i++) {
+        lent.n = secret_word();
+        begin_call();
+        result = leaking_lookup(lent.n);
+    }
+}
+
+static void leaking_scan(void)
+{
+    for (uint64_t i = 0; i < OFTEN; i++) {
+        prepare_draw((struct draw){4, 128, 8, 11, i});
+        begin_call();
+        result = early_exit_scan(lent.draw_words);
+    }
+}
+
+static void leaking_check(void)
+{
+    for (uint64_t i = 0; i < OFTEN; i++) {
+        prepare_response((struct response){4, 4, 0, BLISS_REFUSED_KEY, i});
+        begin_call();
+        result = early_exit_check(lent.key, 8);
+    }
+}
+
+static const struct kind {
+    const char *name;
+    void (*make)(void);
+} kinds[] = {
+    {"exponential", exponential},
+    {"refused_12", refused_12},
+    {"draw_full", draw_full},
+    {"draw_spent", draw_spent},
+    {"accepted", accepted},
+    {"rejected", rejected},
+    {"refused_9", refused_9},
+    {"refused_10", refused_10},
+    {"refused_11", refused_11},
+    {"leaking_n", leaking_n},
+    {"leaking_place", leaking_place},
+    {"leaking_scan", leaking_scan},
+    {"leaking_check", leaking_check},
+};
+
+int main(int argc, char **argv)
+{
+    if (argc != 3)
+        return 2;
+    seed_secrets(argv[2]);
+    for (size_t i = 0; i < sizeof kinds / sizeof *kinds; i++)
+        if (strcmp(argv[1], kinds[i].name) == 0)
+            kinds[i].make();
+    printf("%zu calls, %zu attempts\n", calls, attempts);
+    return as_chosen && calls > 0 ? 0 : 1;
+}
