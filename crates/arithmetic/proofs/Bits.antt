@@ -10,14 +10,6 @@ pub bit-le : (t : Bool) → bit t ≤ 1
 bit-le true = omega arith
 bit-le false = omega arith
 
-pub bit-zero : (t : Bool) → bit t ≡ 0 → t ≡ false
-bit-zero true e = absurd (omega arith)
-bit-zero false e = refl
-
-pub bit-not-zero : (t : Bool) → (bit t ≡ 0 → ⊥) → t ≡ true
-bit-not-zero true h = refl
-bit-not-zero false h = absurd (h refl)
-
 pub bit-is-1 : (t : Bool) → eqb (bit t) 1 ≡ t
 bit-is-1 true = refl
 bit-is-1 false = refl

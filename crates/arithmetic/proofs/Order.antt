@@ -1,5 +1,5 @@
--- Numbers of two digits, in a base that both low digits are below: a number is below another where its high digit is below the other's and the
--- borrow of the low digits. Assumes nothing.
+-- Numbers of two digits, in a base that both low digits are below: one is below another where its high digit is below the other's, to which 1 is
+-- added where its low digit is below the other's too. Assumes nothing.
 use mathlib.Core.Path.{_≡_, refl, sym}
 use mathlib.Core.Bool.{Bool, true, false}
 use Prim.Native.Nat.{ℕ, _+_, _*_, _≤_, _<_}

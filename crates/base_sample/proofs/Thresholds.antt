@@ -9,6 +9,7 @@ use lib.Dec.{leb, ltb}
 use lib.ListN.{getD}
 use borrow.Author.Tests.{ltb-true, ltb-false, le-leb, lt-leb}
 use Rattle.arithmetic.specs.Words.{bit}
+use Rattle.arithmetic.proofs.Bits.{bit-injective}
 use Rattle.arithmetic.proofs.Order.{digits-order}
 use Rattle.checks.proofs.Laws.{all-at}
 use Rattle.base_sample.specs.BaseSample.{threshold, wordsSmall, atOrBelow}
@@ -32,11 +33,7 @@ not-below m n h = by (ltb n m) refl
     by false e = le-leb m n (ltb-false n m e)
 
 pub is-below : (m n : ℕ) → bit (ltb n m) ≡ 1 → leb m n ≡ false
-is-below m n h = lt-leb m n (ltb-true n m (bit-one (ltb n m) h))
-  where
-    bit-one : (t : Bool) → bit t ≡ 1 → t ≡ true
-    bit-one true e = refl
-    bit-one false e = absurd (omega arith)
+is-below m n h = lt-leb m n (ltb-true n m (bit-injective (ltb n m) true h))
 
 -- counting it: one more, less one where the draw is below it
 pub one-more : (x m n : ℕ) → x + 1 - bit (ltb n m) ≡ x + bit (leb m n)

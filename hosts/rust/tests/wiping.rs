@@ -61,12 +61,13 @@ fn secrets_are_wiped_when_they_are_dropped() {
     let drawn = drawn.unwrap();
     assert!(drawn.y.iter().any(|&sample| sample != 0));
     assert_eq!(given_back(4 * sample_count(n), || drop(drawn.y)), (1, 0), "noise that is not used is wiped");
-    // The response's words are 24 bytes, like much else, so these are more: a response may be lent more words than it reads.
-    let words = Secret::system_words(5 * RESPOND_WORDS).unwrap();
+    // The words that a response reads are 24 bytes, like much else, so these are more than it reads.
+    let lent = 777 * RESPOND_WORDS;
+    let words = Secret::system_words(lent).unwrap();
     let key = Secret::zeroed(sample_count(n));
     let y = Secret::zeroed(sample_count(n));
     let mut responded = None;
-    let counts = given_back(8 * 5 * RESPOND_WORDS, || {
+    let counts = given_back(8 * lent, || {
         responded = Some(drawn.session.respond_owned(&[1], &POLYNOMIAL, words, &key, y));
     });
     assert_eq!(counts, (1, 0), "a response wipes its words");

@@ -14,8 +14,8 @@ use Rattle.exponential.proofs.evaluate_listed.Statement.{statement}
 use Rattle.exponential.proofs.evaluate_listed.Tie as tie
 
 record Turn (table : List ℕ) (v at : ℕ) (list₀ list : List ℕ) (a j place : ℕ) : Type 0 where
-  evaluating : Evaluating table v a j
   here : place + j ≡ at + 21
+  evaluating : Evaluating table v a j
   room : at + 21 ≤ length list
   same : length list ≡ length list₀
   entries : sets list place (placesDown 4 j) ≡ sets list₀ at (placesDown 4 21)
@@ -29,7 +29,7 @@ abbrev μ-loop : tie.MeasureT-loop
 loop-holds : tie.Need-loop-holds Inv-loop μ-loop
 loop-holds c =
     let s = c .before .before .args in
-    record { evaluating = evaluating-starts (s .table .now) (s .v); here = omega arith; room = omega arith; same = refl; entries = refl }
+    record { here = omega arith; evaluating = evaluating-starts (s .table .now) (s .v); room = omega arith; same = refl; entries = refl }
 
 sub-j : tie.Need-sub-j Inv-loop μ-loop
 sub-j c = omega arith
@@ -61,8 +61,8 @@ loop-again c =
     let read = c .before .before .before .listed-word .ensures in
     let e = c .next-value .ensures in
     record {
-      evaluating = rw (e, read .0) (evaluating-goes-on (s .args .table .now) (s .pre .0) (s .args .v) (t .a) (t .j) more (t .inv .evaluating));
       here = omega arith;
+      evaluating = rw (e, read .0) (evaluating-goes-on (s .args .table .now) (s .pre .0) (s .args .v) (t .a) (t .j) more (t .inv .evaluating));
       room = rw (read .1, length-set) (t .inv .room);
       same = rw (read .1, length-set) (t .inv .same);
       entries = rw (read .1, add-one) (placesDown-step 4 (t .list) (t .place) (t .j) more ∙ t .inv .entries);

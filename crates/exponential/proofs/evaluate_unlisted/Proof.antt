@@ -29,7 +29,7 @@ next-value-requires c κs =
     let s = c .before .before .before .before in
     let t = c .before .before .loop in
     let asks = evaluating-asks (s .args .table .now) (s .pre .0) (s .args .v) (t .a) (t .j) (c .before .loop-test .taken) (t .inv) in
-    (asks .0, asks .1, s .pre .1)
+    (omega (arith, asks .0), asks .1, s .pre .1)
 
 loop-less : tie.Need-loop-less Inv-loop μ-loop
 loop-less c = omega arith
