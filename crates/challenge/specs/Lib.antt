@@ -1,2 +1,3 @@
 pub mod Challenge
 pub mod Product
+pub mod Modulo
