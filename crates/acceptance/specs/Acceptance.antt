@@ -1,10 +1,10 @@
 -- The bit of a response of document 01, from what it hangs on. Assumes nothing.
 use mathlib.Core.Bool.{Bool, _&&_}
 use mathlib.Core.List.{List, [], _∷_, _++_}
-use Prim.Native.Nat.{ℕ, _+_, _-_, _*_, _/_, _%_, _^_, min}
+use Prim.Native.Nat.{ℕ, _+_, _-_, _*_, _/_, _^_, min}
 use lib.Dec.{leb, ltb}
 use lib.IntN.{ℤ, natAbs}
-use Rattle.arithmetic.specs.Words.{bit}
+use Rattle.arithmetic.specs.Words.{low62Of, bit}
 use Rattle.read_list.specs.Entries.{entry, placesDown}
 use Rattle.exponential.specs.Exponential.{limit}
 use Rattle.acceptance.specs.declared.Measures.{Measures}
@@ -27,11 +27,11 @@ secondExponent i = min (2 * natAbs i) limit
 
 -- the cosh test, multiplied out: f is the whole part of e * e / 2 ^ 62
 unfoldable pub coshPasses : (e word : ℕ) → Bool
-coshPasses e word = ltb (word % 2 ^ 62 * (2 ^ 62 + e * e / 2 ^ 62)) (e * 2 ^ 63)
+coshPasses e word = ltb (low62Of word * (2 ^ 62 + e * e / 2 ^ 62)) (e * 2 ^ 63)
 
 -- the four tests, by e(N1) and e(N2): A and Z are within their limits, and the second and the third word pass
 unfoldable pub allPass : (m : Measures) (e₁ e₂ : ℕ) → Bool
-allPass m e₁ e₂ = leb (m .squares) squaresLimit && (leb (m .norm) normLimit && (ltb (m .second % 2 ^ 62) e₁ && coshPasses e₂ (m .third)))
+allPass m e₁ e₂ = leb (m .squares) squaresLimit && (leb (m .norm) normLimit && (ltb (low62Of (m .second)) e₁ && coshPasses e₂ (m .third)))
 
 -- the bit
 unfoldable pub acceptsBy : (e : ℕ → ℕ) (m : Measures) → Bool

@@ -13,6 +13,8 @@ const SQUARES_LIMIT: u64 = 46225;
 // The most that Z may be.
 const NORM_LIMIT: u64 = 165688384;
 
+const TWO_63: u64 = 2 * arithmetic::TWO_62;
+
 // What the bit of a response hangs on: the sums A, Z and I, and two words.
 pub struct Measures {
     pub squares: u64,
@@ -28,8 +30,8 @@ fn passes_cosh(e: u64, word: u64) -> bool
     ensures { λ r. ⌜ r ≡ coshPasses e word ⌝ }
 {
     let f = arithmetic::square_shift62(e);
-    let left = arithmetic::product(arithmetic::low62(word), 0x4000_0000_0000_0000 + f);
-    let right = arithmetic::product(e, 0x8000_0000_0000_0000);
+    let left = arithmetic::product(arithmetic::low62(word), arithmetic::TWO_62 + f);
+    let right = arithmetic::product(e, TWO_63);
     arithmetic::less(left, right) == 1
 }
 

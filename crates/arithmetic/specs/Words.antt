@@ -1,7 +1,11 @@
 -- Numbers of two words, and tests as numbers. Assumes nothing.
 use mathlib.Core.Bool.{Bool, true, false}
-use Prim.Native.Nat.{ℕ, _+_, _*_, _^_}
+use Prim.Native.Nat.{ℕ, _+_, _*_, _%_, _^_}
 use Rattle.arithmetic.specs.declared.Wide.{Wide}
+
+-- 62 of a word: its low 62 bits
+abbrev pub low62Of : (word : ℕ) → ℕ
+low62Of word = word % 2 ^ 62
 
 -- the number that two words stand for
 abbrev pub value : Wide → ℕ

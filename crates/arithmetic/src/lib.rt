@@ -3,7 +3,10 @@
 ghost use mathlib.Core.Path.{_≡_};
 ghost use Prim.Native.Nat.{_-_, _*_, _/_, _%_, _^_, _≤_, _<_, min};
 ghost use lib.Dec.{ltb};
-ghost use Rattle.arithmetic.specs.Words.{value, bit};
+ghost use Rattle.arithmetic.specs.Words.{low62Of, value, bit};
+
+// 2^62: 1 in units of 2^-62, and above all that 62 bits can hold.
+pub const TWO_62: u64 = 0x4000_0000_0000_0000;
 
 // The number high * 2^64 + low.
 pub struct Wide {
@@ -11,9 +14,9 @@ pub struct Wide {
     pub low: u64,
 }
 
-// The low 62 bits of a word: "62 of a word" of document 01.
+// 62 of a word: its low 62 bits.
 pub fn low62(word: u64) -> u64
-    ensures { λ r. ⌜ r ≡ word % 2 ^ 62 ⌝ }
+    ensures { λ r. ⌜ r ≡ low62Of word ⌝ }
 {
     word & 0x3fff_ffff_ffff_ffff
 }

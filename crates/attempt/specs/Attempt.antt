@@ -6,8 +6,9 @@ use Prim.Native.Nat.{ℕ, _+_, _*_, _/_, _%_, _^_, _<_}
 use lib.Dec.{ltb, eqb}
 use lib.ListN.{length, getD}
 use lib.IntN.{ℤ, pos, negℤ}
+use Rattle.arithmetic.specs.Words.{low62Of}
 use Rattle.read_list.specs.Entries.{entry, placesUp, placesDown}
-use Rattle.exponential.specs.Exponential.{polynomial}
+use Rattle.exponential.specs.Exponential.{polynomial, attemptLimit}
 use Rattle.base_sample.specs.BaseSample.{wordsSmall, baseSample}
 
 -- ** Attempt, over x, the low bits b, the sign and u
@@ -31,7 +32,7 @@ sample x b negative = cond negative (negℤ (pos (size x b))) (pos (size x b))
 
 -- d: 62 of the first word, and 62 of the second
 abbrev pub drawAt : (words : List ℕ) (t : ℕ) → ℕ
-drawAt words t = getD words (4 * t) 0 % 2 ^ 62 * 2 ^ 62 + getD words (4 * t + 1) 0 % 2 ^ 62
+drawAt words t = low62Of (getD words (4 * t) 0) * 2 ^ 62 + low62Of (getD words (4 * t + 1) 0)
 
 -- b: the low 8 bits of the third word
 abbrev pub lowBitsAt : (words : List ℕ) (t : ℕ) → ℕ
@@ -43,7 +44,7 @@ negativeAt words t = eqb (getD words (4 * t + 2) 0 / 2 ^ 8 % 2) 1
 
 -- u: 62 of the fourth word
 abbrev pub uniformAt : (words : List ℕ) (t : ℕ) → ℕ
-uniformAt words t = getD words (4 * t + 3) 0 % 2 ^ 62
+uniformAt words t = low62Of (getD words (4 * t + 3) 0)
 
 -- the accept bit of attempt t
 unfoldable pub bitAt : (e : ℕ → ℕ) (cdt words : List ℕ) (t : ℕ) → Bool
@@ -55,12 +56,12 @@ sampleAt cdt words t = sample (baseSample cdt (drawAt words t)) (lowBitsAt words
 
 -- ** What an attempt asks for
 
--- the tables and the number R for which an attempt is made: N is at most 1,370,625
+-- the tables and the number R for which an attempt is made
 pub record Tables (cdt polynomialTable : List ℕ) (r : ℕ) : Type 0 where
   pub twenty : length cdt ≡ 20
   pub small : wordsSmall cdt ≡ true
   pub is-polynomial : polynomialTable ≡ polynomial
-  pub scales : 1370625 * r < 2 ^ 84
+  pub scales : attemptLimit * r < 2 ^ 84
 
 -- ** The read list
 

@@ -5,10 +5,14 @@ ghost use Prim.Native.Nat.{_+_, _*_, _/_, _%_, _^_, _≤_, _<_};
 ghost use lib.Dec.{ltb, eqb};
 ghost use lib.ListN.{length, getD, set};
 ghost use lib.Seq.{sets};
+ghost use Rattle.arithmetic.specs.Words.{low62Of};
 ghost use Rattle.read_list.specs.Entries.{placesUp};
-ghost use Rattle.exponential.specs.Exponential.{expScaled};
+ghost use Rattle.exponential.specs.Exponential.{attemptLimit, expScaled};
 ghost use Rattle.attempt.specs.Attempt.{size, exponent, sample, Tables, bitAt, sampleAt, attemptEntries};
 use arithmetic::Wide;
+
+// The entries that an attempt lists.
+pub const ENTRIES: usize = 46;
 
 // The words of an attempt: the draw that the first two give, and the other two.
 pub struct AttemptWords {
@@ -20,7 +24,7 @@ pub struct AttemptWords {
 // The words of an attempt from a place on, listed from the index `at` of a list on.
 fn attempt_words(words: &[u64], place: usize, list: &mut [u32], at: usize) -> AttemptWords
     requires { ⌜ (place + 4 ≤ length (now words)) × (place + 4 ≤ 2 ^ 24) × (at + 4 ≤ length (now list)) ⌝ }
-    ensures { λ r. ⌜ (r .draw .high ≡ getD (now (words .entry)) place 0 % 2 ^ 62) × (r .draw .low ≡ getD (now (words .entry)) (place + 1) 0 % 2 ^ 62) × (r .third ≡ getD (now (words .entry)) (place + 2) 0) × (r .fourth ≡ getD (now (words .entry)) (place + 3) 0) × (now (list .exit) ≡ sets (now (list .entry)) at (placesUp 2 place 4)) ⌝ }
+    ensures { λ r. ⌜ (r .draw .high ≡ low62Of (getD (now (words .entry)) place 0)) × (r .draw .low ≡ low62Of (getD (now (words .entry)) (place + 1) 0)) × (r .third ≡ getD (now (words .entry)) (place + 2) 0) × (r .fourth ≡ getD (now (words .entry)) (place + 3) 0) × (now (list .exit) ≡ sets (now (list .entry)) at (placesUp 2 place 4)) ⌝ }
 {
     let first = read_list::listed_word(words, 2, place, list, at);
     let second = read_list::listed_word(words, 2, place + 1, list, at + 1);
@@ -40,7 +44,7 @@ fn attempt_words(words: &[u64], place: usize, list: &mut [u32], at: usize) -> At
 // N, by which an attempt is accepted.
 fn exponent_of(x: u64, third: u64) -> u64
     requires { ⌜ x ≤ 10 ⌝ }
-    ensures { λ r. ⌜ (r ≡ exponent x (third % 2 ^ 8)) × (r ≤ 1370625) ⌝ }
+    ensures { λ r. ⌜ (r ≡ exponent x (third % 2 ^ 8)) × (r ≤ attemptLimit) ⌝ }
 {
     let b = arithmetic::low8(third);
     b * (b + 512 * x)
@@ -49,7 +53,7 @@ fn exponent_of(x: u64, third: u64) -> u64
 // Stores the sample of an attempt at the index k of y, and gives the accept bit.
 fn judged(e: u64, x: u64, third: u64, fourth: u64, y: &mut [i32], k: usize) -> bool
     requires { ⌜ (x ≤ 10) × (k < length (now y)) ⌝ }
-    ensures { λ r. ⌜ r ≡ (ltb (fourth % 2 ^ 62) e && not (eqb (size x (third % 2 ^ 8)) 0 && eqb (third / 2 ^ 8 % 2) 1)) ⌝ }
+    ensures { λ r. ⌜ r ≡ (ltb (low62Of fourth) e && not (eqb (size x (third % 2 ^ 8)) 0 && eqb (third / 2 ^ 8 % 2) 1)) ⌝ }
     ensures { λ _. ⌜ now (y .exit) ≡ set (now (y .entry)) k (sample x (third % 2 ^ 8) (eqb (third / 2 ^ 8 % 2) 1)) ⌝ }
 {
     let size = 256 * x + arithmetic::low8(third);

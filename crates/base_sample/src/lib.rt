@@ -10,6 +10,14 @@ ghost use Rattle.read_list.specs.Entries.{placesUp};
 ghost use Rattle.base_sample.specs.BaseSample.{wordsSmall, neverFalls, isCdt, baseSample};
 use arithmetic::Wide;
 
+// The words of a CDT table.
+pub const CDT_WORDS: usize = 20;
+
+// Its thresholds, and the index of the last one.
+const THRESHOLDS: usize = 10;
+
+const LAST: usize = THRESHOLDS - 1;
+
 // Whether a lent table of 20 words is a CDT table.
 pub fn is_cdt(table: &[u64]) -> bool
     requires { ⌜ length (now table) ≡ 20 ⌝ }
@@ -27,8 +35,8 @@ fn words_small(cdt: &[u64]) -> bool
     ensures { λ r. ⌜ r ≡ wordsSmall (now (cdt .entry)) ⌝ }
 {
     let mut i: usize = 0;
-    while i < 20 {
-        if 0x4000_0000_0000_0000 <= cdt[i] {
+    while i < CDT_WORDS {
+        if arithmetic::TWO_62 <= cdt[i] {
             return false;
         }
         i += 1;
@@ -42,7 +50,7 @@ fn never_falls(cdt: &[u64]) -> bool
     ensures { λ r. ⌜ r ≡ neverFalls (now (cdt .entry)) ⌝ }
 {
     let mut i: usize = 0;
-    while i < 9 {
+    while i < LAST {
         let here = threshold_at(cdt, i);
         let next = threshold_at(cdt, i + 1);
         if below(next, here) == 1 {
@@ -79,7 +87,7 @@ pub fn scan(cdt: &[u64], draw: Wide, list: &mut [u32], at: usize) -> u64
 {
     let mut x: u64 = 0;
     let mut i: usize = 0;
-    while i < 10 {
+    while i < THRESHOLDS {
         let place = 2 * i;
         let here = at + place;
         let high = read_list::listed_word(cdt, 3, place, list, here);

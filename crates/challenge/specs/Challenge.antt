@@ -6,9 +6,13 @@ use lib.Dec.{leb, ltb}
 use lib.ListN.{length, getD}
 use Rattle.checks.specs.Checks.{allBelow}
 
+-- the most positions of a challenge, at any degree
+abbrev pub mostPositions : ℕ
+mostPositions = 64
+
 -- whether so many positions are not too many: at most 64, and at most n
 abbrev pub lengthFits : (n count : ℕ) → Bool
-lengthFits n count = leb count 64 && leb count n
+lengthFits n count = leb count mostPositions && leb count n
 
 -- whether every position is below n
 unfoldable pub positionsBelow : (n : ℕ) (challenge : List ℕ) → Bool

@@ -9,7 +9,7 @@ use lib.ListN.{length, getD}
 use lib.IntN.{ℤ, pos, negℤ, _+ℤ_}
 use Rattle.read_list.specs.Entries.{entry}
 use Rattle.signed.specs.Vectors.{allWithin}
-use Rattle.challenge.specs.Challenge.{positionsBelow}
+use Rattle.challenge.specs.Challenge.{mostPositions, positionsBelow}
 
 -- ** The product
 
@@ -35,12 +35,19 @@ outputsFrom key n base challenge i (suc count) = outputAt key n base i challenge
 unfoldable pub product : (key : List ℤ) (n : ℕ) (challenge : List ℕ) → List ℤ
 product key n challenge = outputsFrom key n 0 challenge 0 n ++ outputsFrom key n n challenge 0 n
 
+-- the size of a key value at most, and that of an output
+abbrev pub keyBound : ℕ
+keyBound = 7
+
+abbrev pub outputBound : ℕ
+outputBound = mostPositions * keyBound
+
 -- what a product asks for: a key of 2n small values, and not too many positions, each below n
 pub record Factors (key : List ℤ) (n : ℕ) (challenge : List ℕ) : Type 0 where
   pub degree : n ≤ 1024
   pub both : length key ≡ 2 * n
-  pub small : allWithin 7 key ≡ true
-  pub few : length challenge ≤ 64
+  pub small : allWithin keyBound key ≡ true
+  pub few : length challenge ≤ mostPositions
   pub below : positionsBelow n challenge ≡ true
 
 -- ** The read list

@@ -7,7 +7,13 @@ ghost use lib.Seq.{sets};
 ghost use Rattle.signed.specs.Vectors.{allWithin, squareSum};
 ghost use Rattle.read_list.specs.Entries.{entry};
 ghost use Rattle.challenge.specs.Challenge.{positionsBelow, ascends, isChallenge};
-ghost use Rattle.challenge.specs.Product.{indexOf, termAt, outputAt, outputsFrom, product, Factors, outputEntries, outputEntriesFrom, productEntries};
+ghost use Rattle.challenge.specs.Product.{keyBound, indexOf, termAt, outputAt, outputsFrom, product, Factors, outputEntries, outputEntriesFrom, productEntries};
+
+// The size of a key value at most.
+pub const KEY_BOUND: u32 = 7;
+
+// The most positions of a challenge, at any degree.
+const MOST_POSITIONS: usize = 64;
 
 // Whether every position is below n.
 fn positions_below(n: usize, challenge: &[u32]) -> bool
@@ -42,7 +48,7 @@ pub fn is_challenge(n: usize, challenge: &[u32]) -> bool
     ensures { λ r. ⌜ r ≡ isChallenge n (now (challenge .entry)) ⌝ }
 {
     let length = challenge.len();
-    if (length == 0) | (64 < length) | (n < length) {
+    if (length == 0) | (MOST_POSITIONS < length) | (n < length) {
         return false;
     }
     let below = positions_below(n, challenge);
@@ -59,7 +65,7 @@ fn term_at(
     list: &mut [u32],
     at: usize,
 ) -> i32
-    requires { ⌜ (length (now key) ≡ 2 * n) × (allWithin 7 (now key) ≡ true) × (n ≤ 1024) × (base ≤ n) × (i < n) × (c < n) × (at < length (now list)) ⌝ }
+    requires { ⌜ (length (now key) ≡ 2 * n) × (allWithin keyBound (now key) ≡ true) × (n ≤ 1024) × (base ≤ n) × (i < n) × (c < n) × (at < length (now list)) ⌝ }
     ensures { λ r. ⌜ (r ≡ termAt (now (key .entry)) n base i c) × (now (list .exit) ≡ set (now (list .entry)) at (entry 8 (base + indexOf n i c))) ⌝ }
 {
     if c <= i {

@@ -80,6 +80,10 @@ divisor = 5916800
 abbrev pub limit : ℕ
 limit = 5534960
 
+-- the largest N of an attempt: b(b + 512x) at x = 10 and b = 255
+abbrev pub attemptLimit : ℕ
+attemptLimit = 1370625
+
 -- e(N)
 unfoldable pub exp : ℕ → ℕ
 exp n = expWith polynomial divisor n

@@ -15,7 +15,10 @@ pub const LIMIT: u64 = 5534960;
 // 2^63 + 12.
 const REFUSAL_12: u64 = 0x8000_0000_0000_000c;
 
-const POLYNOMIAL: [u64; 21] = [
+// The words of the polynomial table.
+pub const POLYNOMIAL_WORDS: usize = 21;
+
+const POLYNOMIAL: [u64; POLYNOMIAL_WORDS] = [
     4611686018427387904,
     4611686018427387904,
     2305843009213693952,
@@ -51,11 +54,11 @@ fn entry_at(j: usize) -> u64
 pub fn is_polynomial(table: &[u64]) -> bool
     ensures { λ r. ⌜ r ≡ isPolynomial (now (table .entry)) ⌝ }
 {
-    if table.len() != 21 {
+    if table.len() != POLYNOMIAL_WORDS {
         return false;
     }
     let mut j: usize = 0;
-    while j < 21 {
+    while j < POLYNOMIAL_WORDS {
         if table[j] != entry_at(j) {
             return false;
         }
@@ -78,7 +81,7 @@ fn evaluate_listed(table: &[u64], v: u64, list: &mut [u32], at: usize) -> u64
     ensures { λ r. ⌜ (r ≡ evaluate (now (table .entry)) v 20 (getD (now (table .entry)) 20 0)) × (r ≤ 2 ^ 62) × (now (list .exit) ≡ sets (now (list .entry)) at (placesDown 4 21)) ⌝ }
 {
     let mut a: u64 = 0;
-    let mut j: usize = 21;
+    let mut j = POLYNOMIAL_WORDS;
     let mut place = at;
     while 0 < j {
         j -= 1;

@@ -9,7 +9,10 @@ use Rattle.signed.specs.Vectors.{allWithin}
 use Rattle.checks.specs.Checks.{isDegree, unless}
 use Rattle.exponential.specs.Exponential.{isPolynomial}
 use Rattle.base_sample.specs.BaseSample.{isCdt}
+use Rattle.sampler.specs.Draw.{drawListLength}
 use Rattle.challenge.specs.Challenge.{isChallenge}
+use Rattle.challenge.specs.Product.{keyBound}
+use Rattle.response.specs.Response.{noiseBound, respondListLength}
 
 -- opening
 unfoldable pub openRefusal : (n : ℕ) → ℕ
@@ -24,7 +27,7 @@ drawRefusal n limit cdt polynomial words y list =
     (unless (isPolynomial polynomial) 4
     (unless (leb (2 * n) limit && leb limit (32 * n)) 5
     (unless (leb (4 * limit) words) 7
-    (unless (leb (46 * limit + 2) list) 8
+    (unless (leb (drawListLength limit) list) 8
     0))))))
 
 -- responding; of the words, z and the list it looks at the lengths alone
@@ -35,8 +38,8 @@ respondRefusal n drawn challenge polynomial words key y z list =
     (unless (isPolynomial polynomial) 4
     (unless (isChallenge n challenge) 6
     (unless (leb 3 words) 7
-    (unless (leb (2 * n * length challenge + 47) list) 8
+    (unless (leb (respondListLength n (length challenge)) list) 8
     (unless drawn 9
-    (unless (allWithin 7 key) 10
-    (unless (allWithin 2815 y) 11
+    (unless (allWithin keyBound key) 10
+    (unless (allWithin noiseBound y) 11
     0))))))))

@@ -17,7 +17,10 @@ pub fn draw_refusal(
     if !checks::is_degree(n) {
         return 1;
     }
-    if (cdt.len() != 20) | (polynomial.len() != 21) | (y != 2 * n) {
+    if (cdt.len() != base_sample::CDT_WORDS)
+        | (polynomial.len() != exponential::POLYNOMIAL_WORDS)
+        | (y != 2 * n)
+    {
         return 2;
     }
     let cdt_right = base_sample::is_cdt(cdt);
@@ -34,7 +37,7 @@ pub fn draw_refusal(
     if words < 4 * limit {
         return 7;
     }
-    if list < 46 * limit + 2 {
+    if list < attempt::ENTRIES * limit + 2 {
         return 8;
     }
     0
@@ -58,7 +61,11 @@ pub fn respond_refusal(
         return 1;
     }
     let both = 2 * n;
-    if (polynomial.len() != 21) | (y.len() != both) | (z != both) | (key.len() != both) {
+    if (polynomial.len() != exponential::POLYNOMIAL_WORDS)
+        | (y.len() != both)
+        | (z != both)
+        | (key.len() != both)
+    {
         return 2;
     }
     if !exponential::is_polynomial(polynomial) {
@@ -74,8 +81,8 @@ pub fn respond_refusal(
     if list_short {
         return 8;
     }
-    let key_small = signed::all_within(key, 7);
-    let y_small = signed::all_within(y, 2815);
+    let key_small = signed::all_within(key, challenge::KEY_BOUND);
+    let y_small = signed::all_within(y, response::NOISE_BOUND);
     if !drawn {
         return 9;
     }

@@ -8,12 +8,19 @@ use lib.Seq.{sets}
 use lib.IntN.{ℤ, pos, negℤ, _+ℤ_}
 use Rattle.read_list.specs.Entries.{entry, placesUp}
 use Rattle.signed.specs.Vectors.{squareSum, innerProduct}
-use Rattle.challenge.specs.Product.{productEntries}
+use Rattle.challenge.specs.Product.{outputBound, productEntries}
 use Rattle.response.specs.declared.Answer.{Answer}
 use Rattle.acceptance.specs.declared.Measures.{Measures}
 use Rattle.acceptance.specs.Acceptance.{acceptsBy, acceptanceEntries}
 
 -- ** The response
+
+-- the size of a value of y at most, 256 * 10 + 255, and that of a value of z
+abbrev pub noiseBound : ℕ
+noiseBound = 2815
+
+abbrev pub responseBound : ℕ
+responseBound = noiseBound + outputBound
 
 -- g: bit 0 of a word
 abbrev pub subtracts : (word : ℕ) → Bool
@@ -40,6 +47,10 @@ measuresOf y sc words = let z = responseZ y sc words in
 
 unfoldable pub respondEntries : (n : ℕ) (accepted : Bool) (challenge : List ℕ) → List ℕ
 respondEntries n accepted challenge = entry 7 n ∷ (productEntries n challenge ++ (placesUp 2 0 3 ++ acceptanceEntries accepted))
+
+-- the entries that a response to so many positions lists
+abbrev pub respondListLength : (n count : ℕ) → ℕ
+respondListLength n count = 2 * n * count + 47
 
 -- ** A whole response
 

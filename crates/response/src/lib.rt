@@ -10,9 +10,12 @@ ghost use Rattle.arithmetic.specs.Words.{bit};
 ghost use Rattle.read_list.specs.Entries.{entry, placesUp};
 ghost use Rattle.signed.specs.Vectors.{allWithin, squareSum, innerProduct};
 ghost use Rattle.exponential.specs.Exponential.{polynomial, expScaled, limit};
-ghost use Rattle.challenge.specs.Product.{product, Factors, productEntries};
-ghost use Rattle.response.specs.Response.{subtracts, responseOf, measuresOf, responseZ, responseBit, respondedBy};
+ghost use Rattle.challenge.specs.Product.{outputBound, product, Factors, productEntries};
+ghost use Rattle.response.specs.Response.{noiseBound, responseBound, subtracts, responseOf, measuresOf, responseZ, responseBit, respondListLength, respondedBy};
 use acceptance::Measures;
+
+// The size of a value of y at most.
+pub const NOISE_BOUND: u32 = 2815;
 
 // The answer of a response: its bit, and the entries listed.
 pub struct Answer {
@@ -50,15 +53,15 @@ fn response_words(words: &[u64], list: &mut [u32], at: usize) -> ResponseWords
 
 // One value of the response: y and the product with its sign.
 fn response_at(y: i32, sc: i32, sign: i32) -> i32
-    requires { ⌜ (natAbs y ≤ 2815) × (natAbs sc ≤ 448) × (natAbs sign ≤ 1) ⌝ }
-    ensures { λ r. ⌜ (r ≡ y +ℤ (sc *ℤ sign)) × (natAbs r ≤ 3263) ⌝ }
+    requires { ⌜ (natAbs y ≤ noiseBound) × (natAbs sc ≤ outputBound) × (natAbs sign ≤ 1) ⌝ }
+    ensures { λ r. ⌜ (r ≡ y +ℤ (sc *ℤ sign)) × (natAbs r ≤ responseBound) ⌝ }
 {
     signed::plus(y, signed::times_sign(sc, sign))
 }
 
 // Makes z the response, in place: it holds the challenge product before. The sign is by bit 0 of a word.
 fn add_product(word: u64, y: &[i32], z: &mut [i32]) -> Sums
-    requires { ⌜ (length (now y) ≡ length (now z)) × (length (now z) ≤ 2048) × (allWithin 2815 (now y) ≡ true) × (allWithin 448 (now z) ≡ true) ⌝ }
+    requires { ⌜ (length (now y) ≡ length (now z)) × (length (now z) ≤ 2048) × (allWithin noiseBound (now y) ≡ true) × (allWithin outputBound (now z) ≡ true) ⌝ }
     ensures { λ r. ⌜ (r .norm ≡ squareSum (responseOf (subtracts word) (now (y .entry)) (now (z .entry)))) × (r .inner ≡ innerProduct (responseOf (subtracts word) (now (y .entry)) (now (z .entry))) (now (z .entry))) ⌝ }
     ensures { λ _. ⌜ now (z .exit) ≡ responseOf (subtracts word) (now (y .entry)) (now (z .entry)) ⌝ }
 {
@@ -89,7 +92,7 @@ fn measured(
     list: &mut [u32],
 ) -> Measures
     requires { ⌜ Factors (now key) degree (now challenge) ⌝ }
-    requires { ⌜ (3 ≤ length (now words)) × (length (now y) ≡ 2 * degree) × (allWithin 2815 (now y) ≡ true) × (length (now z) ≡ 2 * degree) × (2 * degree * length (now challenge) + 4 ≤ length (now list)) ⌝ }
+    requires { ⌜ (3 ≤ length (now words)) × (length (now y) ≡ 2 * degree) × (allWithin noiseBound (now y) ≡ true) × (length (now z) ≡ 2 * degree) × (2 * degree * length (now challenge) + 4 ≤ length (now list)) ⌝ }
     ensures { λ r. ⌜ r ≡ measuresOf (now (y .entry)) (product (now (key .entry)) degree (now (challenge .entry))) (now (words .entry)) ⌝ }
     ensures { λ _. ⌜ now (z .exit) ≡ responseZ (now (y .entry)) (product (now (key .entry)) degree (now (challenge .entry))) (now (words .entry)) ⌝ }
     ensures { λ _. ⌜ now (list .exit) ≡ sets (now (list .entry)) 0 (entry 7 degree ∷ (productEntries degree (now (challenge .entry)) ++ placesUp 2 0 3)) ⌝ }
@@ -122,7 +125,7 @@ pub fn respond(
     list: &mut [u32],
 ) -> Answer
     requires { ⌜ Factors (now key) degree (now challenge) ⌝ }
-    requires { ⌜ (now table ≡ polynomial) × (limit * reciprocal < 2 ^ 84) × (3 ≤ length (now words)) × (length (now y) ≡ 2 * degree) × (allWithin 2815 (now y) ≡ true) × (length (now z) ≡ 2 * degree) × (2 * degree * length (now challenge) + 47 ≤ length (now list)) ⌝ }
+    requires { ⌜ (now table ≡ polynomial) × (limit * reciprocal < 2 ^ 84) × (3 ≤ length (now words)) × (length (now y) ≡ 2 * degree) × (allWithin noiseBound (now y) ≡ true) × (length (now z) ≡ 2 * degree) × (respondListLength degree (length (now challenge)) ≤ length (now list)) ⌝ }
     ensures { λ r. ⌜ record { answer = r; y = now (y .exit); z = now (z .exit); list = now (list .exit) } ≡ respondedBy degree (responseBit (expScaled (now (table .entry)) reciprocal) (now (y .entry)) (product (now (key .entry)) degree (now (challenge .entry))) (now (words .entry))) (now (challenge .entry)) (responseZ (now (y .entry)) (product (now (key .entry)) degree (now (challenge .entry))) (now (words .entry))) (now (list .entry)) ⌝ }
 {
     let m = measured(degree, challenge, words, key, y, z, list);

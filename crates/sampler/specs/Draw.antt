@@ -59,6 +59,10 @@ entriesFrom t before (b ∷ bits) = attemptEntries t before ++ entriesFrom (suc 
 unfoldable pub drawEntries : (n : ℕ) (bits : List Bool) → List ℕ
 drawEntries n bits = entry 1 n ∷ entriesFrom 0 0 bits
 
+-- the entries that a draw lists at most: the first, 46 for each attempt, and the last
+abbrev pub drawListLength : (limit : ℕ) → ℕ
+drawListLength limit = 46 * limit + 2
+
 -- ** A whole draw
 
 -- what a draw leaves: its counts, y and the list
@@ -77,6 +81,6 @@ sampledBy n cdt words bits list = record {
 
 -- ** What follows
 
--- a draw lists at most 46L + 2 entries
+-- a draw lists no more
 abbrev pub DrawEntriesAtMost : Type 0
-DrawEntriesAtMost = (e : ℕ → ℕ) (cdt words : List ℕ) (n limit want : ℕ) → length (drawEntries n (drawBits e cdt words limit want)) ≤ 46 * limit + 2
+DrawEntriesAtMost = (e : ℕ → ℕ) (cdt words : List ℕ) (n limit want : ℕ) → length (drawEntries n (drawBits e cdt words limit want)) ≤ drawListLength limit

@@ -4,7 +4,7 @@ ghost use Prim.Native.Nat.{_+_, _*_, _^_, _≤_};
 ghost use lib.ListN.{length};
 ghost use Rattle.exponential.specs.Exponential.{expScaled};
 ghost use Rattle.attempt.specs.Attempt.{Tables};
-ghost use Rattle.sampler.specs.Draw.{drawBits, sampledBy};
+ghost use Rattle.sampler.specs.Draw.{drawBits, drawListLength, sampledBy};
 
 // The counts of a draw: attempts made, samples accepted, entries listed.
 pub struct Counts {
@@ -27,7 +27,7 @@ pub fn draw(
     list: &mut [u32],
 ) -> Counts
     requires { ⌜ Tables (now cdt) (now table) reciprocal ⌝ }
-    requires { ⌜ (degree ≤ 2 ^ 20) × (limit ≤ 2 ^ 20) × (4 * limit ≤ length (now words)) × (length (now y) ≡ 2 * degree) × (46 * limit + 2 ≤ length (now list)) ⌝ }
+    requires { ⌜ (degree ≤ 2 ^ 20) × (limit ≤ 2 ^ 20) × (4 * limit ≤ length (now words)) × (length (now y) ≡ 2 * degree) × (drawListLength limit ≤ length (now list)) ⌝ }
     ensures { λ r. ⌜ record { counts = r; y = now (y .exit); list = now (list .exit) } ≡ sampledBy degree (now (cdt .entry)) (now (words .entry)) (drawBits (expScaled (now (table .entry)) reciprocal) (now (cdt .entry)) (now (words .entry)) limit (2 * degree)) (now (list .entry)) ⌝ }
 {
     let want = 2 * degree;
@@ -38,7 +38,7 @@ pub fn draw(
     while (t < limit) & (k < want) {
         let accepted = attempt::attempt(cdt, table, reciprocal, words, t, y, k, list, at);
         k += accepted as usize;
-        at += 46;
+        at += attempt::ENTRIES;
         t += 1;
     }
     read_list::note(6, k, list, at);

@@ -1,7 +1,9 @@
 -- What follows for every call, refused or served. Assumes nothing.
 use mathlib.Core.Path.{_≡_}
-use Prim.Native.Nat.{_+_, _*_, _≤_}
+use Prim.Native.Nat.{_≤_}
 use lib.ListN.{length}
+use Rattle.sampler.specs.Draw.{drawListLength}
+use Rattle.response.specs.Response.{respondListLength}
 use Rattle.session.specs.declared.Session.{Session}
 use Rattle.session.specs.Calls.{Draw, drawRefused, drawLeft, Respond, respondRefused, respondLeft}
 
@@ -9,7 +11,7 @@ use Rattle.session.specs.Calls.{Draw, drawRefused, drawLeft, Respond, re
 
 -- its count of entries is at most 46L + 2, and at most the length of its list
 abbrev pub DrawCountsEntries : Type 0
-DrawCountsEntries = (s : Session) (d : Draw) → let count = drawLeft s d .drawn .answer .entries in (count ≤ 46 * d .limit + 2) × (count ≤ length (d .list))
+DrawCountsEntries = (s : Session) (d : Draw) → let count = drawLeft s d .drawn .answer .entries in (count ≤ drawListLength (d .limit)) × (count ≤ length (d .list))
 
 -- it keeps the degree
 abbrev pub DrawKeepsDegree : Type 0
@@ -25,7 +27,7 @@ RefusedDrawTouchesNothing = (s : Session) (d : Draw) → let left = drawLeft s d
 abbrev pub RespondCountsEntries : Type 0
 RespondCountsEntries =
     (s : Session) (r : Respond) → let answer = respondLeft s r .responded .answer in
-    (answer .refusal ≡ 0 → answer .entries ≡ 2 * s .degree * length (r .challenge) + 47) × (answer .entries ≤ length (r .list))
+    (answer .refusal ≡ 0 → answer .entries ≡ respondListLength (s .degree) (length (r .challenge))) × (answer .entries ≤ length (r .list))
 
 -- it keeps the degree
 abbrev pub RespondKeepsDegree : Type 0
