@@ -9,17 +9,19 @@ use lib.Pow.{pow-pos}
 use lib.Dec.{leb, ltb, eqb}
 use lib.IntN.{ℤ, pos, negsuc}
 use borrow.Author.Tests.{lt-ltb, le-ltb, lt-leb}
-use Rattle.checks.specs.Checks.{allBelow}
+use Rattle.checks.specs.Checks.{among, isDegree, allBelow, unless}
 use Rattle.checks.proofs.Laws.{and-false}
-use Rattle.signed.specs.Vectors.{squareSum, innerProduct}
-use Rattle.exponential.specs.Exponential.{factorial, entriesFrom, polynomial, reciprocal, scaled, evaluate, squared, squarings, expScaled, expWith, exp, expOrRefusal}
+use Rattle.signed.specs.Vectors.{allWithin, squareSum, innerProduct}
+use Rattle.exponential.specs.Exponential.{factorial, entriesFrom, polynomial, sameWords, isPolynomial, reciprocal, scaled, evaluate, squared, squarings, expScaled, expWith, exp, expOrRefusal}
 use Rattle.base_sample.specs.BaseSample.{wordsSmall, neverFalls, isCdt, atOrBelow, baseSample}
 use Rattle.known_points.specs.EvenThresholds.{thresholdsFrom, evenThresholds}
 use Rattle.base_sample.proofs.BaseSampleLaws.{base-sample-exactly, base-sample-rises}
 use Rattle.attempt.specs.Attempt.{accepts, sample, bitAt, sampleAt}
+use Rattle.challenge.specs.Challenge.{positionsBelow, ascends, isChallenge}
 use Rattle.challenge.specs.Product.{termAt, outputAt, outputsFrom, product}
 use Rattle.acceptance.specs.Acceptance.{coshPasses, allPass, acceptsBy}
 use Rattle.response.specs.Response.{responseOf, responseZ, measuresOf, responseBit}
+use Rattle.refusals.specs.Refusals.{openRefusal, drawRefusal, respondRefusal}
 use Rattle.known_points.specs.KnownPoints.{e, oneHighFrom, oneHigh, KnownPoints}
 
 -- ** Words
@@ -90,7 +92,8 @@ pub known-points : KnownPoints
 unfolding evenThresholds thresholdsFrom oneHigh oneHighFrom isCdt wordsSmall neverFalls allBelow baseSample atOrBelow exp
     expOrRefusal expWith expScaled polynomial entriesFrom factorial reciprocal scaled evaluate squared squarings bitAt sampleAt
     accepts sample product outputsFrom outputAt termAt responseZ responseOf responseBit acceptsBy measuresOf allPass coshPasses
-    squareSum innerProduct
+    squareSum innerProduct openRefusal drawRefusal respondRefusal unless isDegree among isPolynomial sameWords isChallenge positionsBelow ascends
+    allWithin
 known-points = record {
   lowest-d = refl;
   d-below-first = refl;
@@ -109,6 +112,32 @@ known-points = record {
   challenge-0-3 = λ s2. refl;
   cosh-at-one = cosh-one;
   cosh-at-zero = cosh-zero;
+  entries-21 = refl;
+  entry-0 = refl;
+  entry-1 = refl;
+  entry-19 = refl;
+  entry-20 = refl;
+  divisor-by-64 = refl;
+  twice-215-squared = refl;
+  norm-limit = refl;
+  noise-bound = refl;
+  refusal-1 = refl;
+  refusal-2 = refl;
+  refusal-3 = refl;
+  refusal-4 = refl;
+  refusal-5 = refl;
+  refusal-6 = refl;
+  refusal-7 = refl;
+  refusal-8 = refl;
+  refusal-9 = refl;
+  refusal-10 = refl;
+  refusal-11 = refl;
+  refusal-12 = refl;
+  served-8 = refl;
+  served-128 = refl;
+  refused-129 = refl;
+  served-55 = refl;
+  refused-54 = refl;
   even-is-cdt = refl;
   one-high-is-cdt = refl;
   d-below-by-62-bits = λ top₀ top₁. ap₂ (λ (high low : ℕ). baseSample evenThresholds (high * 2 ^ 62 + low)) (top-cut top₀ (2 ^ 40 - 1)) (top-cut top₁ (2 ^ 62 - 1));
@@ -118,6 +147,9 @@ known-points = record {
   low-above = refl;
   high-below = λ word₁. zero-below oneHigh (6 * 2 ^ 62 + word₁ % 2 ^ 62) (6 * 2 ^ 62 + (2 ^ 62 - 1)) refl (omega arith);
   high-above = λ word₁. ten-above oneHigh (8 * 2 ^ 62) (8 * 2 ^ 62 + word₁ % 2 ^ 62) refl refl (omega arith);
+  reciprocal-is = refl;
+  attempt-limit = refl;
+  limit-by-norms = refl;
   exp-513 = refl;
   exp-46225 = refl;
   exp-92450 = refl;
@@ -125,7 +157,6 @@ known-points = record {
   exp-1 = refl;
   exp-none = refl;
   alone-last = refl;
-  alone-refused = refl;
   word-3-below = λ top. ap (accepts e 1 1 false) (top-cut top 4586166892218597775);
   word-3-at = λ top. ap (accepts e 1 1 false) (top-cut top 4586166892218597776);
   word-3-below-largest = λ top. ap (accepts e 10 255 true) (top-cut top 1679544596974);
@@ -137,6 +168,8 @@ known-points = record {
   minus-256-bit = λ word₃. ap (λ t. t && true) (low-below-one word₃);
   second-half-1 = λ a b c d. refl;
   second-half-0-3 = λ a b c d. refl;
+  squares-limit = refl;
+  response-bound = refl;
   g-0 = λ rest. ap (λ (bit : ℕ). eqb bit 1) (bit-0-of-even rest);
   g-1 = λ rest. ap (λ (bit : ℕ). eqb bit 1) (bit-0-of-odd rest);
   z-plus = λ rest word₁ word₂. ap (λ (bit : ℕ). responseOf (eqb bit 1) (pos 10 ∷ pos 2 ∷ []) (pos 3 ∷ negsuc 4 ∷ [])) (bit-0-of-even rest);

@@ -1,20 +1,21 @@
--- The known points of document 01 that form its table, those marked with a star there, and points of our own: what the definitions that
--- the contracts cite give. A word that a point leaves open is any word; negsuc k is -(k + 1). proofs/KnownPoints.antt has the one proof of
--- all. Assumes nothing.
+-- The known points of document 01 that form its table, those marked with a star there, the numbers and examples in its text, and points of
+-- our own: what the definitions that the contracts cite give. A word that a point leaves open is any word; negsuc k is -(k + 1).
+-- proofs/KnownPoints.antt has the one proof of all. Assumes nothing.
 use mathlib.Core.Path.{_≡_}
-use mathlib.Core.Bool.{true, false}
+use mathlib.Core.Bool.{Bool, true, false}
 use mathlib.Core.List.{List, [], _∷_, _++_}
 use Prim.Native.Nat.{ℕ, zero, suc, _+_, _-_, _*_, _^_, _<_}
 use lib.IntN.{ℤ, pos, negsuc}
-use lib.ListN.{take, drop, replicate}
+use lib.ListN.{length, take, drop, set, replicate}
 use Rattle.signed.specs.Vectors.{squareSum}
-use Rattle.exponential.specs.Exponential.{polynomial, divisor, exp, expWith, expOrRefusal}
+use Rattle.exponential.specs.Exponential.{polynomialEntry, polynomial, reciprocal, divisor, limit, attemptLimit, exp, expWith, expOrRefusal}
 use Rattle.base_sample.specs.BaseSample.{isCdt, baseSample}
 use Rattle.known_points.specs.EvenThresholds.{evenThresholds}
 use Rattle.attempt.specs.Attempt.{size, exponent, drawAt, lowBitsAt, negativeAt, bitAt, sampleAt}
 use Rattle.challenge.specs.Product.{product}
-use Rattle.acceptance.specs.Acceptance.{coshPasses}
-use Rattle.response.specs.Response.{subtracts, responseZ, responseBit}
+use Rattle.acceptance.specs.Acceptance.{squaresLimit, normLimit, coshPasses}
+use Rattle.response.specs.Response.{noiseBound, responseBound, subtracts, responseZ, responseBit}
+use Rattle.refusals.specs.Refusals.{openRefusal, drawRefusal, respondRefusal}
 
 -- ** What the points are about
 
@@ -51,6 +52,14 @@ oneToFour = pos 1 ∷ pos 2 ∷ pos 3 ∷ pos 4 ∷ []
 abbrev pub withZeros : (value : ℤ) → List ℤ
 withZeros value = value ∷ replicate 7 (pos 0)
 
+-- the refusal of a draw at degree 4, over a y of 8 values
+abbrev pub drawOf4 : (limit : ℕ) (cdt table : List ℕ) (words list : ℕ) → ℕ
+drawOf4 limit cdt table words list = drawRefusal 4 limit cdt table words 8 list
+
+-- the refusal of a respond at degree 4, over a z of 8 values, with three words
+abbrev pub respondOf4 : (drawn : Bool) (challenge : List ℕ) (key y : List ℤ) (list : ℕ) → ℕ
+respondOf4 drawn challenge key y list = respondRefusal 4 drawn challenge polynomial 3 key y 8 list
+
 -- ** The points
 
 pub record KnownPoints : Type 0 where
@@ -83,6 +92,42 @@ pub record KnownPoints : Type 0 where
   pub cosh-at-one : (word₂ : ℕ) → coshPasses (2 ^ 62) word₂ ≡ true
   pub cosh-at-zero : (word₂ : ℕ) → coshPasses 0 word₂ ≡ false
   --
+  -- ** Document 01: numbers in its text
+  -- the polynomial table has 21 words: entry 0 = entry 1 = 2 ^ 62, entry 19 = 37, entry 20 = 1
+  pub entries-21 : length polynomial ≡ 21
+  pub entry-0 : polynomialEntry 0 ≡ 2 ^ 62
+  pub entry-1 : polynomialEntry 1 ≡ 2 ^ 62
+  pub entry-19 : polynomialEntry 19 ≡ 37
+  pub entry-20 : polynomialEntry 20 ≡ 1
+  -- 5,916,800 = 64 * 92,450, and 92,450 = 2 * 215 ^ 2
+  pub divisor-by-64 : divisor ≡ 64 * 92450
+  pub twice-215-squared : 92450 ≡ 2 * 215 ^ 2
+  -- 165,688,384 = 12,872 ^ 2
+  pub norm-limit : normLimit ≡ 12872 ^ 2
+  -- d high 2 ^ 62 - 1 has x = 10, and b goes to 255: so far go the values of y
+  pub noise-bound : noiseBound ≡ size 10 255
+  --
+  -- ** Document 01: the examples of its refusals, and those of its known points that are of lengths
+  pub refusal-1 : openRefusal 12 ≡ 1
+  pub refusal-2 : drawOf4 8 (take 19 evenThresholds) polynomial 32 370 ≡ 2
+  pub refusal-3 : drawOf4 8 (set evenThresholds 19 (2 ^ 62)) polynomial 32 370 ≡ 3
+  pub refusal-4 : drawOf4 8 evenThresholds (set polynomial 19 38) 32 370 ≡ 4
+  pub refusal-5 : drawOf4 7 evenThresholds polynomial 28 370 ≡ 5
+  pub refusal-6 : respondOf4 true (2 ∷ 2 ∷ []) (replicate 8 (pos 0)) (replicate 8 (pos 0)) 63 ≡ 6
+  pub refusal-7 : drawOf4 8 evenThresholds polynomial 31 370 ≡ 7
+  pub refusal-8 : drawOf4 8 evenThresholds polynomial 32 369 ≡ 8
+  pub refusal-9 : respondOf4 false (0 ∷ []) (replicate 8 (pos 0)) (replicate 8 (pos 0)) 55 ≡ 9
+  pub refusal-10 : respondOf4 true (0 ∷ []) (pos 8 ∷ replicate 7 (pos 0)) (replicate 8 (pos 0)) 55 ≡ 10
+  pub refusal-11 : respondOf4 true (0 ∷ []) (replicate 8 (pos 0)) (pos 2816 ∷ replicate 7 (pos 0)) 55 ≡ 11
+  pub refusal-12 : expOrRefusal 5534961 ≡ 2 ^ 63 + 12
+  -- n = 4: L = 8 and 370 list entries are served, L = 128 with 5,890 too; L = 129 is refusal 5
+  pub served-8 : drawOf4 8 evenThresholds polynomial 32 370 ≡ 0
+  pub served-128 : drawOf4 128 evenThresholds polynomial 512 5890 ≡ 0
+  pub refused-129 : drawOf4 129 evenThresholds polynomial 516 5936 ≡ 5
+  -- one position: 55 entries are served, 54 are refusal 8; the largest values of key and y, of both signs, are served
+  pub served-55 : respondOf4 true (0 ∷ []) (pos 7 ∷ negsuc 6 ∷ replicate 6 (pos 0)) (pos 2815 ∷ negsuc 2814 ∷ replicate 6 (pos 0)) 55 ≡ 0
+  pub refused-54 : respondOf4 true (0 ∷ []) (replicate 8 (pos 0)) (replicate 8 (pos 0)) 54 ≡ 8
+  --
   -- ** Our own: base sample
   -- the tables of these points are CDT tables
   pub even-is-cdt : isCdt evenThresholds ≡ true
@@ -99,6 +144,10 @@ pub record KnownPoints : Type 0 where
   pub high-above : (word₁ : ℕ) → baseSampleBy oneHigh 8 word₁ ≡ 10
   --
   -- ** Our own: exponential
+  -- R, and the largest N of an attempt and of a response: at A and Z within their limits, 2|I| is at most 2 * 215 * 12,872
+  pub reciprocal-is : reciprocal divisor ≡ 3269134179596076729
+  pub attempt-limit : attemptLimit ≡ exponent 10 255
+  pub limit-by-norms : limit ≡ 2 * 215 * 12872
   pub exp-513 : exp 513 ≡ 4586166892218597776
   pub exp-46225 : exp 46225 ≡ 2797128963144291334
   pub exp-92450 : exp 92450 ≡ 1696544475317221329
@@ -106,9 +155,8 @@ pub record KnownPoints : Type 0 where
   -- the last N whose e(N) is not 0, and the first whose is
   pub exp-1 : exp 3973050 ≡ 1
   pub exp-none : exp 3973051 ≡ 0
-  -- by N alone: the largest N, and the first that is refused
+  -- by N alone: the largest N is served
   pub alone-last : expOrRefusal 5534960 ≡ 0
-  pub alone-refused : expOrRefusal 5534961 ≡ 2 ^ 63 + 12
   --
   -- ** Our own: attempt
   -- word 3 = e(N) - 1 is accepted and e(N) is not, whatever its top two bits are: x = 1, b = 1; x = 10, b = 255, sign 1
@@ -131,6 +179,10 @@ pub record KnownPoints : Type 0 where
   pub second-half-0-3 : (a b c d : ℤ) → drop 4 (product (a ∷ b ∷ c ∷ d ∷ oneToFour) 4 (0 ∷ 3 ∷ [])) ≡ negsuc 0 ∷ negsuc 0 ∷ negsuc 0 ∷ pos 5 ∷ []
   --
   -- ** Our own: respond
+  -- A is at most 215 ^ 2
+  pub squares-limit : squaresLimit ≡ 215 ^ 2
+  -- a value of z goes to 2,815 and 64 * 7
+  pub response-bound : responseBound ≡ 3263
   -- g is bit 0 of word 0, and its other bits do not count: z = y + Sc where it is 0, else y - Sc
   pub g-0 : (rest : ℕ) → subtracts (2 * rest) ≡ false
   pub g-1 : (rest : ℕ) → subtracts (2 * rest + 1) ≡ true

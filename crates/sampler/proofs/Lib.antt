@@ -1,3 +1,4 @@
 pub mod DrawLaws
 pub mod DrawTells
 pub mod Agreement
+pub mod DrawStops

@@ -1,9 +1,11 @@
 -- The draw of document 01, read off the accept bits of its attempts. Assumes nothing.
+use mathlib.Core.Path.{_≡_}
 use mathlib.Core.Bool.{Bool, true, false, cond}
 use mathlib.Core.List.{List, [], _∷_, _++_}
-use Prim.Native.Nat.{ℕ, zero, suc, _+_, _*_, _≤_}
+use mathlib.Core.Logic.{_⊎_}
+use Prim.Native.Nat.{ℕ, zero, suc, _+_, _*_, _≤_, _<_}
 use lib.Dec.{eqb}
-use lib.ListN.{length, replicate}
+use lib.ListN.{length, getD, take, replicate}
 use lib.Seq.{sets}
 use lib.IntN.{ℤ, pos}
 use Rattle.arithmetic.specs.Words.{bit}
@@ -80,6 +82,18 @@ sampledBy n cdt words bits list = record {
 }
 
 -- ** What follows
+
+-- bits are those of the attempts from t on that a draw makes: each is the rule's and is made with samples still wanted, and they end at
+-- the first attempt that makes as many as wanted, or after the limit with fewer
+pub record Stops (bitOf : ℕ → Bool) (t limit want : ℕ) (bits : List Bool) : Type 0 where
+  pub within : length bits ≤ limit
+  pub each : (k : ℕ) → k < length bits → getD bits k false ≡ bitOf (t + k)
+  pub still-wanted : (k : ℕ) → k < length bits → accepted (take k bits) < want
+  pub ends : (accepted bits ≡ want) ⊎ ((accepted bits < want) × (length bits ≡ limit))
+
+-- the bits of a draw are such
+abbrev pub DrawStops : Type 0
+DrawStops = (e : ℕ → ℕ) (cdt words : List ℕ) (limit want : ℕ) → Stops (bitAt e cdt words) 0 limit want (drawBits e cdt words limit want)
 
 -- a draw lists no more
 abbrev pub DrawEntriesAtMost : Type 0
