@@ -26,7 +26,7 @@ zero-or-not (suc k) = inr (λ e. omega arith)
 -- ** A draw
 
 module _ (s : Session) (d : Draw) where
-  pub served-draw-leaves : refusalOfDraw s d ≡ 0 → drawLeft s d ≡ drawServed (s .degree) (sampledBy (s .degree) (d .cdt) (d .words) (bitsOfDraw s d) (d .list))
+  pub served-draw-leaves : refusalOfDraw s d ≡ 0 → drawLeft s d ≡ drawServed s (sampledBy (s .degree) (d .cdt) (d .words) (bitsOfDraw s d) (d .list))
   unfolding drawLeft
   served-draw-leaves h = rw (eq-eqb (refusalOfDraw s d) 0 h)
 
@@ -67,7 +67,7 @@ module _ (s : Session) (d : Draw) where
 -- ** A respond
 
 module _ (s : Session) (r : Respond) where
-  pub served-respond-leaves : refusalOfRespond s r ≡ 0 → respondLeft s r ≡ respondServed (s .degree) (respondedBy (s .degree) (bitOfRespond s r) (r .challenge) (zOfRespond s r) (r .list))
+  pub served-respond-leaves : refusalOfRespond s r ≡ 0 → respondLeft s r ≡ respondServed s (respondedBy (s .degree) (bitOfRespond s r) (r .challenge) (zOfRespond s r) (r .list))
   unfolding respondLeft
   served-respond-leaves h = rw (eq-eqb (refusalOfRespond s r) 0 h)
 

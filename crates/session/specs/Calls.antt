@@ -6,8 +6,10 @@ use lib.Dec.{eqb}
 use lib.IntN.{ℤ}
 use lib.ListN.{length}
 use Rattle.exponential.specs.Exponential.{expWith, divisor}
+use Rattle.sampler.specs.declared.Counts.{Counts}
 use Rattle.sampler.specs.Draw.{drawBits, isFull, Sampled, sampledBy}
 use Rattle.challenge.specs.Product.{product}
+use Rattle.response.specs.declared.Answer.{Answer}
 use Rattle.response.specs.Response.{responseZ, responseBit, Response, respondedBy}
 use Rattle.refusals.specs.Refusals.{openRefusal, drawRefusal, respondRefusal}
 use Rattle.session.specs.declared.Session.{Session}
@@ -46,30 +48,30 @@ refusalOfDraw s d = drawRefusal (s .degree) (d .limit) (d .cdt) (d .polynomial) 
 unfoldable pub bitsOfDraw : (s : Session) (d : Draw) → List Bool
 bitsOfDraw s d = drawBits (expWith (d .polynomial) divisor) (d .cdt) (d .words) (d .limit) (2 * s .degree)
 
--- refused: its number, with 0 for every count; the session, y and the list stay
-unfoldable pub drawRefused : (refusal : ℕ) (s : Session) (d : Draw) → DrawLeft
-drawRefused refusal s d = record {
-  drawn = record { answer = record { refusal = refusal; attempts = 0; accepted = 0; entries = 0 }; session = s };
-  y = d .y;
-  list = d .list;
+-- what a refused draw hands back: its number, with 0 for every count, and the same session
+abbrev pub drawnRefused : (refusal : ℕ) (s : Session) → Drawn
+drawnRefused refusal s = record { answer = record { refusal = refusal; attempts = 0; accepted = 0; entries = 0 }; session = s }
+
+-- what a served draw hands back: its counts; full sets drawn, and spent clears it
+abbrev pub drawnServed : (s : Session) (counts : Counts) → Drawn
+drawnServed s counts = record {
+  answer = record { refusal = 0; attempts = counts .attempts; accepted = counts .accepted; entries = counts .entries };
+  session = record { degree = s .degree; drawn = isFull (2 * s .degree) (counts .accepted) };
 }
 
--- served: the counts, y and the list are those of the sampling; full sets drawn, and spent clears it
-unfoldable pub drawServed : (n : ℕ) (sampled : Sampled) → DrawLeft
-drawServed n sampled = record {
-  drawn = record {
-    answer = record { refusal = 0; attempts = sampled .counts .attempts; accepted = sampled .counts .accepted; entries = sampled .counts .entries };
-    session = record { degree = n; drawn = isFull (2 * n) (sampled .counts .accepted) };
-  };
-  y = sampled .y;
-  list = sampled .list;
-}
+-- what a refused draw leaves: y and the list stay
+unfoldable pub drawRefused : (refusal : ℕ) (s : Session) (d : Draw) → DrawLeft
+drawRefused refusal s d = record { drawn = drawnRefused refusal s; y = d .y; list = d .list }
+
+-- what a served draw leaves: y and the list are those of the sampling
+unfoldable pub drawServed : (s : Session) (sampled : Sampled) → DrawLeft
+drawServed s sampled = record { drawn = drawnServed s (sampled .counts); y = sampled .y; list = sampled .list }
 
 -- a draw
 unfoldable pub drawLeft : (s : Session) (d : Draw) → DrawLeft
 drawLeft s d =
     cond (eqb (refusalOfDraw s d) 0)
-    (drawServed (s .degree) (sampledBy (s .degree) (d .cdt) (d .words) (bitsOfDraw s d) (d .list)))
+    (drawServed s (sampledBy (s .degree) (d .cdt) (d .words) (bitsOfDraw s d) (d .list)))
     (drawRefused (refusalOfDraw s d) s d)
 
 -- ** Responding
@@ -103,30 +105,28 @@ bitOfRespond s r = responseBit (expWith (r .polynomial) divisor) (r .y) (product
 unfoldable pub zOfRespond : (s : Session) (r : Respond) → List ℤ
 zOfRespond s r = responseZ (r .y) (product (r .key) (s .degree) (r .challenge)) (r .words)
 
--- refused: its number, with 0 for the bit and the count; the session, y, z and the list stay
-unfoldable pub respondRefused : (refusal : ℕ) (s : Session) (r : Respond) → RespondLeft
-respondRefused refusal s r = record {
-  responded = record { answer = record { refusal = refusal; bit = false; entries = 0 }; session = s };
-  y = r .y;
-  z = r .z;
-  list = r .list;
+-- what a refused respond hands back: its number, with 0 for the bit and the count, and the same session
+abbrev pub respondedRefused : (refusal : ℕ) (s : Session) → Responded
+respondedRefused refusal s = record { answer = record { refusal = refusal; bit = false; entries = 0 }; session = s }
+
+-- what a served respond hands back: its bit and its count; nothing is drawn any more
+abbrev pub respondedServed : (s : Session) (answer : Answer) → Responded
+respondedServed s answer = record {
+  answer = record { refusal = 0; bit = answer .bit; entries = answer .entries };
+  session = record { degree = s .degree; drawn = false };
 }
 
--- served: the bit, y, z and the list are those of the response, and nothing is drawn any more
-unfoldable pub respondServed : (n : ℕ) (response : Response) → RespondLeft
-respondServed n response = record {
-  responded = record {
-    answer = record { refusal = 0; bit = response .answer .bit; entries = response .answer .entries };
-    session = record { degree = n; drawn = false };
-  };
-  y = response .y;
-  z = response .z;
-  list = response .list;
-}
+-- what a refused respond leaves: y, z and the list stay
+unfoldable pub respondRefused : (refusal : ℕ) (s : Session) (r : Respond) → RespondLeft
+respondRefused refusal s r = record { responded = respondedRefused refusal s; y = r .y; z = r .z; list = r .list }
+
+-- what a served respond leaves: y, z and the list are those of the response
+unfoldable pub respondServed : (s : Session) (response : Response) → RespondLeft
+respondServed s response = record { responded = respondedServed s (response .answer); y = response .y; z = response .z; list = response .list }
 
 -- a respond
 unfoldable pub respondLeft : (s : Session) (r : Respond) → RespondLeft
 respondLeft s r =
     cond (eqb (refusalOfRespond s r) 0)
-    (respondServed (s .degree) (respondedBy (s .degree) (bitOfRespond s r) (r .challenge) (zOfRespond s r) (r .list)))
+    (respondServed s (respondedBy (s .degree) (bitOfRespond s r) (r .challenge) (zOfRespond s r) (r .list)))
     (respondRefused (refusalOfRespond s r) s r)

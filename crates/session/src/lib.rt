@@ -1,6 +1,9 @@
 // Sessions: a degree, and whether y is drawn. Each call takes the session by value, and hands back the next one with its answer.
 ghost use mathlib.Core.Path.{_≡_};
-ghost use Rattle.session.specs.Calls.{opened, drawLeft, respondLeft};
+ghost use Prim.Native.Nat.{_≤_};
+ghost use Rattle.session.specs.Calls.{opened, drawnRefused, drawnServed, drawLeft, respondedRefused, respondedServed, respondLeft};
+use response::Answer;
+use sampler::Counts;
 
 #[repr(C)]
 pub struct Session {
@@ -92,17 +95,8 @@ impl Session {
             list.len(),
         );
         if refusal != 0 {
-            return Drawn {
-                answer: DrawAnswer {
-                    refusal,
-                    attempts: 0,
-                    accepted: 0,
-                    entries: 0,
-                },
-                session: self,
-            };
+            return self.drawn_refused(refusal);
         }
-        let want = 2 * n;
         let counts = sampler::draw(
             n,
             limit,
@@ -113,18 +107,7 @@ impl Session {
             y,
             list,
         );
-        Drawn {
-            answer: DrawAnswer {
-                refusal: 0,
-                attempts: counts.attempts,
-                accepted: counts.accepted,
-                entries: counts.entries,
-            },
-            session: Session {
-                degree: n,
-                drawn: counts.accepted == want,
-            },
-        }
+        self.drawn_served(counts)
     }
 
     // Responds to a challenge: z holds y and the product of the key with the challenge, added or subtracted, where the bit is 1, else it
@@ -154,14 +137,7 @@ impl Session {
             list.len(),
         );
         if refusal != 0 {
-            return Responded {
-                answer: RespondAnswer {
-                    refusal,
-                    bit: false,
-                    entries: 0,
-                },
-                session: self,
-            };
+            return self.responded_refused(refusal);
         }
         let answer = response::respond(
             n,
@@ -174,6 +150,62 @@ impl Session {
             z,
             list,
         );
+        self.responded_served(answer)
+    }
+
+    // What a refused draw hands back: no counts, and the same session.
+    fn drawn_refused(self, refusal: u32) -> Drawn
+        ensures { λ r. ⌜ r ≡ drawnRefused refusal self ⌝ }
+    {
+        Drawn {
+            answer: DrawAnswer {
+                refusal,
+                attempts: 0,
+                accepted: 0,
+                entries: 0,
+            },
+            session: self,
+        }
+    }
+
+    // What a served draw hands back: its counts. Full sets drawn, and spent clears it.
+    fn drawn_served(self, counts: Counts) -> Drawn
+        requires { ⌜ self .degree ≤ 1024 ⌝ }
+        ensures { λ r. ⌜ r ≡ drawnServed self counts ⌝ }
+    {
+        let n = self.degree;
+        Drawn {
+            answer: DrawAnswer {
+                refusal: 0,
+                attempts: counts.attempts,
+                accepted: counts.accepted,
+                entries: counts.entries,
+            },
+            session: Session {
+                degree: n,
+                drawn: counts.accepted == 2 * n,
+            },
+        }
+    }
+
+    // What a refused respond hands back: no bit, no count, and the same session.
+    fn responded_refused(self, refusal: u32) -> Responded
+        ensures { λ r. ⌜ r ≡ respondedRefused refusal self ⌝ }
+    {
+        Responded {
+            answer: RespondAnswer {
+                refusal,
+                bit: false,
+                entries: 0,
+            },
+            session: self,
+        }
+    }
+
+    // What a served respond hands back: its bit and its count. Nothing is drawn any more.
+    fn responded_served(self, answer: Answer) -> Responded
+        ensures { λ r. ⌜ r ≡ respondedServed self answer ⌝ }
+    {
         Responded {
             answer: RespondAnswer {
                 refusal: 0,
@@ -181,7 +213,7 @@ impl Session {
                 entries: answer.entries,
             },
             session: Session {
-                degree: n,
+                degree: self.degree,
                 drawn: false,
             },
         }

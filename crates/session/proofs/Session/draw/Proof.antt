@@ -10,7 +10,8 @@ use Rattle.exponential.specs.Exponential.{expScaled}
 use Rattle.sampler.specs.Draw.{drawBits, Sampled, sampledBy}
 use Rattle.refusals.proofs.Served.{DrawServed}
 use Rattle.session.specs.declared.Session.{Session}
-use Rattle.session.specs.Calls.{Draw, refusalOfDraw, bitsOfDraw, drawRefused, drawServed, drawLeft}
+use Rattle.session.specs.declared.Drawn.{Drawn}
+use Rattle.session.specs.Calls.{Draw, refusalOfDraw, bitsOfDraw, drawnRefused, drawnServed, drawRefused, drawServed, drawLeft}
 use Rattle.session.proofs.Deviation.{by-215}
 use Rattle.session.proofs.Calls.{draw-passed, served-draw-leaves, refused-draw-leaves}
 use Rattle.session.proofs.Session.draw.Statement.{statement}
@@ -32,12 +33,20 @@ refusal-is c = c .draw-refusal .ensures
 
 -- ** Refused
 
-refused : (s : Session) (d : Draw) (refusal : ℕ) → refusal ≡ refusalOfDraw s d → (refusal ≡ 0 → ⊥) → drawRefused refusal s d ≡ drawLeft s d
-refused s d refusal e h = ap (λ (k : ℕ). drawRefused k s d) e ∙ sym (refused-draw-leaves s d (λ z. h (e ∙ z)))
+drawn-refused-requires : tie.Need-drawn-refused-requires
+drawn-refused-requires c κs = search needs
+
+refused : (s : Session) (d : Draw) (refusal : ℕ) (drawn : Drawn) → refusal ≡ refusalOfDraw s d → (refusal ≡ 0 → ⊥) → drawn ≡ drawnRefused refusal s
+    → record { drawn = drawn; y = d .y; list = d .list } ≡ drawLeft s d
+unfolding drawRefused
+refused s d refusal drawn e h made =
+    ap (λ (x : Drawn). record { drawn = x; y = d .y; list = d .list }) (made ∙ ap (λ (k : ℕ). drawnRefused k s) e)
+    ∙ sym (refused-draw-leaves s d (λ z. h (e ∙ z)))
 
 returns : tie.Need-returns
-unfolding drawRefused
-returns c = let r = c .before in refused (start r .args .self) (call (start r)) _ (refusal-is r) (c .if1 .taken)
+returns c =
+    let r = c .before .before in
+    refused (start r .args .self) (call (start r)) _ _ (refusal-is r) (c .before .if1 .taken) (c .drawn-refused .ensures)
 
 -- ** Served
 
@@ -46,9 +55,6 @@ served c = sym (refusal-is (c .before)) ∙ c .if1 .left
 
 passed : (c : tie.Else1) → let a = start (c .before) .args in DrawServed (a .self .degree) (a .limit) (a .cdt .now) (a .polynomial .now) (length (a .words .now)) (length (a .y .now)) (length (a .list .now))
 passed c = draw-passed (start (c .before) .args .self) (call (start (c .before))) (served c)
-
-mul-want : tie.Need-mul-want
-mul-want c = omega (arith, degree-range _ (passed c .degree) .1)
 
 draw-requires : tie.Need-draw-requires
 draw-requires c κs =
@@ -62,20 +68,23 @@ same-length c = search needs
 same-length-2 : tie.Need-same-length-2
 same-length-2 c = search needs
 
-sampled-leaves : (s : Session) (d : Draw) (sampled : Sampled) → refusalOfDraw s d ≡ 0
+drawn-served-requires : tie.Need-drawn-served-requires
+drawn-served-requires c κs = degree-range _ (passed (c .before .before .before .before .before .before) .degree) .1
+
+sampled-leaves : (s : Session) (d : Draw) (sampled : Sampled) (drawn : Drawn) → refusalOfDraw s d ≡ 0 → drawn ≡ drawnServed s (sampled .counts)
     → sampled ≡ sampledBy (s .degree) (d .cdt) (d .words) (drawBits (expScaled (d .polynomial) 3269134179596076729) (d .cdt) (d .words) (d .limit) (2 * s .degree)) (d .list)
-    → drawServed (s .degree) sampled ≡ drawLeft s d
-unfolding bitsOfDraw
-sampled-leaves s d sampled h e =
-    ap (drawServed (s .degree)) (e ∙ ap (λ (f : ℕ → ℕ). sampledBy (s .degree) (d .cdt) (d .words) (drawBits f (d .cdt) (d .words) (d .limit) (2 * s .degree)) (d .list)) (by-215 (d .polynomial)))
+    → record { drawn = drawn; y = sampled .y; list = sampled .list } ≡ drawLeft s d
+unfolding bitsOfDraw drawServed
+sampled-leaves s d sampled drawn h made e =
+    ap (λ (x : Drawn). record { drawn = x; y = sampled .y; list = sampled .list }) made
+    ∙ ap (drawServed s) (e ∙ ap (λ (f : ℕ → ℕ). sampledBy (s .degree) (d .cdt) (d .words) (drawBits f (d .cdt) (d .words) (d .limit) (2 * s .degree)) (d .list)) (by-215 (d .polynomial)))
     ∙ sym (served-draw-leaves s d h)
 
 returns-2 : tie.Need-returns-2
-unfolding drawServed
 returns-2 c =
     let d = c .before .before .before .before in
     let other = d .before .before .before in
-    sampled-leaves (start (other .before) .args .self) (call (start (other .before))) _ (served other) (d .draw .ensures)
+    sampled-leaves (start (other .before) .args .self) (call (start (other .before))) _ _ (served other) (c .drawn-served .ensures) (d .draw .ensures)
 
 pub draw-spec : {M : Type 1} → statement M
-draw-spec = tie.close (tie.spec draw-refusal-requires returns mul-want draw-requires same-length same-length-2 returns-2)
+draw-spec = tie.close (tie.spec draw-refusal-requires drawn-refused-requires returns draw-requires drawn-served-requires same-length same-length-2 returns-2)

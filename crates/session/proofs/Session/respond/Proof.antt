@@ -10,7 +10,8 @@ use Rattle.challenge.specs.Product.{product}
 use Rattle.response.specs.Response.{responseBit, Response, respondedBy}
 use Rattle.refusals.proofs.Served.{RespondServed}
 use Rattle.session.specs.declared.Session.{Session}
-use Rattle.session.specs.Calls.{Respond, refusalOfRespond, bitOfRespond, zOfRespond, respondRefused, respondServed, respondLeft}
+use Rattle.session.specs.declared.Responded.{Responded}
+use Rattle.session.specs.Calls.{Respond, refusalOfRespond, bitOfRespond, zOfRespond, respondedRefused, respondedServed, respondRefused, respondServed, respondLeft}
 use Rattle.session.proofs.Deviation.{by-215}
 use Rattle.session.proofs.Calls.{respond-passed, served-respond-leaves, refused-respond-leaves}
 use Rattle.session.proofs.Session.respond.Statement.{statement}
@@ -34,15 +35,23 @@ refusal-is c = c .respond-refusal .ensures
 
 -- ** Refused
 
+responded-refused-requires : tie.Need-responded-refused-requires
+responded-refused-requires c κs = search needs
+
 same-length : tie.Need-same-length
 same-length c = search needs
 
-refused : (s : Session) (r : Respond) (refusal : ℕ) → refusal ≡ refusalOfRespond s r → (refusal ≡ 0 → ⊥) → respondRefused refusal s r ≡ respondLeft s r
-refused s r refusal e h = ap (λ (k : ℕ). respondRefused k s r) e ∙ sym (refused-respond-leaves s r (λ z. h (e ∙ z)))
+refused : (s : Session) (r : Respond) (refusal : ℕ) (responded : Responded) → refusal ≡ refusalOfRespond s r → (refusal ≡ 0 → ⊥) → responded ≡ respondedRefused refusal s
+    → record { responded = responded; y = r .y; z = r .z; list = r .list } ≡ respondLeft s r
+unfolding respondRefused
+refused s r refusal responded e h made =
+    ap (λ (x : Responded). record { responded = x; y = r .y; z = r .z; list = r .list }) (made ∙ ap (λ (k : ℕ). respondedRefused k s) e)
+    ∙ sym (refused-respond-leaves s r (λ z. h (e ∙ z)))
 
 returns : tie.Need-returns
-unfolding respondRefused
-returns c = let r = c .before in refused (start r .args .self) (call (start r)) _ (refusal-is r) (c .if1 .taken)
+returns c =
+    let r = c .before .before in
+    refused (start r .args .self) (call (start r)) _ _ (refusal-is r) (c .before .if1 .taken) (c .responded-refused .ensures)
 
 -- ** Served
 
@@ -67,22 +76,26 @@ same-length-3 c = search needs
 same-length-4 : tie.Need-same-length-4
 same-length-4 c = search needs
 
-responded-leaves : (s : Session) (r : Respond) (response : Response) → refusalOfRespond s r ≡ 0
+responded-served-requires : tie.Need-responded-served-requires
+responded-served-requires c κs = search needs
+
+response-leaves : (s : Session) (r : Respond) (response : Response) (responded : Responded) → refusalOfRespond s r ≡ 0 → responded ≡ respondedServed s (response .answer)
     → response ≡ respondedBy (s .degree) (responseBit (expScaled (r .polynomial) 3269134179596076729) (r .y) (product (r .key) (s .degree) (r .challenge)) (r .words)) (r .challenge) (zOfRespond s r) (r .list)
-    → respondServed (s .degree) response ≡ respondLeft s r
-unfolding bitOfRespond
-responded-leaves s r response h e =
-    ap (respondServed (s .degree)) (e ∙ ap (λ (f : ℕ → ℕ). respondedBy (s .degree) (responseBit f (r .y) (product (r .key) (s .degree) (r .challenge)) (r .words)) (r .challenge) (zOfRespond s r) (r .list)) (by-215 (r .polynomial)))
+    → record { responded = responded; y = response .y; z = response .z; list = response .list } ≡ respondLeft s r
+unfolding bitOfRespond respondServed
+response-leaves s r response responded h made e =
+    ap (λ (x : Responded). record { responded = x; y = response .y; z = response .z; list = response .list }) made
+    ∙ ap (respondServed s) (e ∙ ap (λ (f : ℕ → ℕ). respondedBy (s .degree) (responseBit f (r .y) (product (r .key) (s .degree) (r .challenge)) (r .words)) (r .challenge) (zOfRespond s r) (r .list)) (by-215 (r .polynomial)))
     ∙ sym (served-respond-leaves s r h)
 
 returns-2 : tie.Need-returns-2
-unfolding respondServed zOfRespond
+unfolding zOfRespond
 returns-2 c =
-    let r = c .before .before .before .before in
+    let r = c .before .before .before .before .before in
     let other = r .before .before .before .before in
-    responded-leaves (start (other .before) .args .self) (call (start (other .before))) _ (served other) (r .respond .ensures)
+    response-leaves (start (other .before) .args .self) (call (start (other .before))) _ _ (served other) (c .responded-served .ensures) (r .respond .ensures)
 
 pub respond-spec : {M : Type 1} → statement M
 respond-spec =
     tie.close
-    (tie.spec respond-refusal-requires same-length returns respond-requires same-length-2 same-length-3 same-length-4 returns-2)
+    (tie.spec respond-refusal-requires responded-refused-requires same-length returns respond-requires responded-served-requires same-length-2 same-length-3 same-length-4 returns-2)
