@@ -1,16 +1,16 @@
 -- The exponents of a response, and the entries of its judging. Assumes nothing.
-use mathlib.Core.Path.{_≡_, refl, sym, ap, ap₂, _∙_}
+use mathlib.Core.Path.{_≡_, refl, _∙_}
 use mathlib.Core.Bool.{Bool, true, false}
 use mathlib.Core.List.{List, [], _∷_, _++_}
 use Prim.Native.Nat.{ℕ, _+_, _-_, _*_, _^_, _≤_, _<_, min}
 use native.Mathlib.Nat.{lt-of-le-of-lt, mul-le-mul-right}
 use native.Mathlib.Omega.{arith}
-use lib.ListN.{length, set}
+use lib.ListN.{set}
 use lib.Seq.{sets}
 use mir.Val.{boolByte}
 use Rattle.arithmetic.specs.Words.{bit}
 use Rattle.read_list.specs.Entries.{entry, placesDown}
-use Rattle.read_list.proofs.Laws.{length-placesDown, sets-append}
+use Rattle.read_list.proofs.Laws.{written-behind}
 use Rattle.exponential.specs.Exponential.{limit}
 use Rattle.acceptance.specs.Acceptance.{squaresLimit, firstExponent, acceptanceEntries}
 
@@ -33,13 +33,7 @@ byte-is-bit false = refl
 
 pub judging-written : (t : Bool) (l l₁ l₂ l₃ : List ℕ) (at : ℕ) → l₁ ≡ sets l at (placesDown 4 21) → l₂ ≡ sets l₁ (at + 21) (placesDown 4 21) → l₃ ≡ set l₂ (at + 42) (entry 9 (boolByte t))
     → l₃ ≡ sets l at (acceptanceEntries t)
-unfolding acceptanceEntries
+unfolding acceptanceEntries placesDown
 judging-written t l l₁ l₂ l₃ at e₁ e₂ e₃ =
-    let run = placesDown 4 21 in
-    let count = length-placesDown 4 21 in
     let last = entry 9 (bit t) ∷ [] in
-    e₃
-    ∙ ap₂ (λ (k : List ℕ) (p : ℕ). set k (at + 42) (entry 9 p)) (e₂ ∙ ap (λ (k : List ℕ). sets k (at + 21) run) e₁) (byte-is-bit t)
-    ∙ ap₂ (λ (p q : ℕ). sets (sets (sets l at run) p run) q last) (omega (arith, count)) (omega (arith, count))
-    ∙ sym (sets-append (sets l at run) (at + length run) run last)
-    ∙ sym (sets-append l at run (run ++ last))
+    written-behind l at (at + 21) (placesDown 4 21) (placesDown 4 21 ++ last) e₁ (written-behind l₁ (at + 21) (at + 42) (placesDown 4 21) last e₂ (e₃ ∙ rw (byte-is-bit t)) (omega arith)) refl

@@ -11,16 +11,16 @@ use Rattle.base_sample.proofs.Agreement.{same-base-sample}
 use Rattle.attempt.specs.Attempt.{drawAt, bitAt, sampleAt, attemptEntries}
 
 -- attempt t, whose words are named by places below 2 ^ 24
-module _ (a b : Lent) (t before : ℕ) (h : 4 * t + 4 ≤ 2 ^ 24) (same : Agree a b (attemptEntries t before)) where
+module _ {a b : Lent} (t before : ℕ) (h : 4 * t + 4 ≤ 2 ^ 24) (same : Agree a b (attemptEntries t before)) where
   word : (p : ℕ) → 4 * t ≤ p → p < 4 * t + 4 → getD (a .words) p 0 ≡ getD (b .words) p 0
   unfolding attemptEntries
-  word p l g = same-word a b p (omega arith) (agree-placesUp a b 2 (4 * t) 4 (agree-first a b (placesUp 2 (4 * t) 4) _ same) p l g)
+  word p l g = same-word p (omega arith) (agree-placesUp 2 (4 * t) 4 (agree-first (placesUp 2 (4 * t) 4) _ same) p l g)
 
   cdt-word : (p : ℕ) → p < 20 → getD (a .cdt) p 0 ≡ getD (b .cdt) p 0
   unfolding attemptEntries
   cdt-word p g =
-      let later = agree-rest a b (placesUp 2 (4 * t) 4) _ same in
-      same-cdt-word a b p (omega arith) (agree-placesUp a b 3 0 20 (agree-first a b (placesUp 3 0 20) _ later) p (omega arith) (omega arith))
+      let later = agree-rest (placesUp 2 (4 * t) 4) _ same in
+      same-cdt-word p (omega arith) (agree-placesUp 3 0 20 (agree-first (placesUp 3 0 20) _ later) p (omega arith) (omega arith))
 
   base-sample : baseSample (a .cdt) (drawAt (a .words) t) ≡ baseSample (b .cdt) (drawAt (b .words) t)
   base-sample =

@@ -1,17 +1,16 @@
 -- An attempt, from its words as they are read: its bit, its sample and its entries. Assumes nothing.
-use mathlib.Core.Path.{_≡_, sym, ap, ap₂, _∙_}
+use mathlib.Core.Path.{_≡_, refl, _∙_}
 use mathlib.Core.Bool.{Bool, not, _&&_}
 use mathlib.Core.List.{List, [], _∷_, _++_}
 use Prim.Native.Nat.{ℕ, _+_, _*_, _/_, _%_, _^_}
 use native.Mathlib.Omega.{arith}
 use lib.Dec.{ltb, eqb}
-use lib.ListN.{set, getD}
+use lib.ListN.{length, set, getD}
 use lib.Seq.{sets}
 use Rattle.read_list.specs.Entries.{entry, placesUp, placesDown}
-use Rattle.read_list.proofs.Laws.{sets-append}
+use Rattle.read_list.proofs.Laws.{written-behind}
 use Rattle.base_sample.specs.BaseSample.{baseSample}
-use Rattle.attempt.specs.Attempt.{size, exponent, accepts, sample, drawAt, bitAt, sampleAt}
-use Rattle.attempt.specs.Attempt.{attemptEntries}
+use Rattle.attempt.specs.Attempt.{size, exponent, accepts, sample, drawAt, bitAt, sampleAt, attemptEntries}
 
 -- ** The bit and the sample
 
@@ -32,18 +31,15 @@ module _ (cdt words : List ℕ) (t high low third fourth x : ℕ)
 
 -- ** The entries
 
+pub length-attempt : (t before : ℕ) → length (attemptEntries t before) ≡ 46
+unfolding attemptEntries placesUp placesDown
+length-attempt t before = refl
+
 pub attempt-written : (l l₁ l₂ l₃ l₄ : List ℕ) (at t k : ℕ) → l₁ ≡ sets l at (placesUp 2 (4 * t) 4) → l₂ ≡ sets l₁ (at + 4) (placesUp 3 0 20) → l₃ ≡ sets l₂ (at + 24) (placesDown 4 21) → l₄ ≡ set l₃ (at + 45) (entry 5 k)
     → l₄ ≡ sets l at (attemptEntries t k)
 unfolding attemptEntries placesUp placesDown
 attempt-written l l₁ l₂ l₃ l₄ at t k e₁ e₂ e₃ e₄ =
-    let a : at + 4 + 20 ≡ at + 24 = omega arith in
-    let b : at + 24 + 21 ≡ at + 45 = omega arith in
     let last = entry 5 k ∷ [] in
-    sym (
-    sets-append l at (placesUp 2 (4 * t) 4) (placesUp 3 0 20 ++ (placesDown 4 21 ++ last))
-    ∙ ap (λ (x : List ℕ). sets x (at + 4) (placesUp 3 0 20 ++ (placesDown 4 21 ++ last))) (sym e₁)
-    ∙ sets-append l₁ (at + 4) (placesUp 3 0 20) (placesDown 4 21 ++ last)
-    ∙ ap₂ (λ (x : List ℕ) (n : ℕ). sets x n (placesDown 4 21 ++ last)) (sym e₂) a
-    ∙ sets-append l₂ (at + 24) (placesDown 4 21) last
-    ∙ ap₂ (λ (x : List ℕ) (n : ℕ). sets x n last) (sym e₃) b
-    ∙ sym e₄)
+    let table = placesDown 4 21 ++ last in
+    written-behind l at (at + 4) (placesUp 2 (4 * t) 4) (placesUp 3 0 20 ++ table) e₁
+    (written-behind l₁ (at + 4) (at + 24) (placesUp 3 0 20) table e₂ (written-behind l₂ (at + 24) (at + 45) (placesDown 4 21) last e₃ e₄ (omega arith)) (omega arith)) refl

@@ -1,12 +1,14 @@
 -- The base sample is x exactly when d is at or above just x thresholds, and never falls as d rises. Assumes nothing.
-use mathlib.Core.Path.{_≡_, refl, sym, subst}
+use mathlib.Core.Path.{_≡_, refl, subst}
 use mathlib.Core.Bool.{Bool, true, false}
 use mathlib.Core.List.{List}
-use Prim.Native.Nat.{ℕ, zero, suc, _+_, _-_, _≤_, _<_}
-use native.Mathlib.Nat.{le-trans, le-refl, lt-of-lt-of-le, lt-irrefl, le-antisymm, add-le-add, not-suc-le-zero, le-of-suc-le-suc, add-zero, add-suc}
+use mathlib.Core.Logic.{⊎-elim}
+use Prim.Native.Nat.{ℕ, zero, suc, _+_, _≤_, _<_}
+use native.Mathlib.Nat.{le-trans, le-refl, lt-of-lt-of-le, lt-of-not-le, lt-irrefl, le-antisymm, eq-or-lt-of-le, add-le-add, not-suc-le-zero, le-of-suc-le-suc}
 use native.Mathlib.Omega.{arith}
-use lib.Dec.{leb, ltb}
-use borrow.Author.Tests.{leb-true, leb-false, le-leb, ltb-true, ltb-false}
+use lib.Arith.{le-zero}
+use lib.Dec.{leb}
+use borrow.Author.Tests.{leb-true, leb-false, le-leb}
 use Rattle.arithmetic.specs.Words.{bit}
 use Rattle.checks.proofs.Laws.{all-at}
 use Rattle.base_sample.specs.BaseSample.{threshold, neverFalls, atOrBelow, baseSample, AtJust, BaseSampleExactly, BaseSampleRises}
@@ -17,9 +19,13 @@ rises : (cdt : List ℕ) → neverFalls cdt ≡ true → (i : ℕ) → i < 9 →
 unfolding neverFalls
 rises cdt e i h = leb-true (threshold cdt i) (threshold cdt (suc i)) (all-at (λ (j : ℕ). leb (threshold cdt j) (threshold cdt (suc j))) i 9 h e)
 
-in-order : (cdt : List ℕ) → neverFalls cdt ≡ true → (i more : ℕ) → i + more < 10 → threshold cdt i ≤ threshold cdt (i + more)
-in-order cdt e i zero h = rw (add-zero i) (le-refl (threshold cdt i))
-in-order cdt e i (suc more) h = rw (add-suc i more) (le-trans (in-order cdt e i more (omega arith)) (rises cdt e (i + more) (omega arith)))
+in-order : (cdt : List ℕ) → neverFalls cdt ≡ true → (i j : ℕ) → i ≤ j → j < 10 → threshold cdt i ≤ threshold cdt j
+in-order cdt e i zero h g = rw (le-zero h) (le-refl (threshold cdt 0))
+in-order cdt e i (suc j) h g =
+    ⊎-elim
+    (λ same. rw same (le-refl (threshold cdt (suc j))))
+    (λ below. le-trans (in-order cdt e i j (le-of-suc-le-suc below) (omega arith)) (rises cdt e j (le-of-suc-le-suc g)))
+    (eq-or-lt-of-le h)
 
 -- ** The count, threshold by threshold
 
@@ -30,32 +36,12 @@ module _ (cdt : List ℕ) (d : ℕ) where
   one-more : neverFalls cdt ≡ true → (count x : ℕ) → count < 10 → AtJust cdt d count x → AtJust cdt d (suc count) (x + bit (leb (threshold cdt count) d))
   one-more e count x h r = by (leb (threshold cdt count) d) refl
     where
-      up-to-here : (i : ℕ) → i ≤ count → threshold cdt i ≤ threshold cdt count
-      up-to-here i g =
-          let k : i + (count - i) ≡ count = omega arith in
-          ap-le k (in-order cdt e i (count - i) (omega (arith, k)))
-        where
-          ap-le : {j : ℕ} → j ≡ count → threshold cdt i ≤ threshold cdt j → threshold cdt i ≤ threshold cdt count
-          ap-le f l = subst (λ (j : ℕ). threshold cdt i ≤ threshold cdt j) f l
-
       -- where d is at or above this threshold, it is below none before
       reaches : threshold cdt count ≤ d → count ≤ x
-      reaches g = or-below (ltb x count) refl
-        where
-          or-below : (t : Bool) → ltb x count ≡ t → count ≤ x
-          or-below true f =
-              let k = ltb-true x count f in
-              absurd (lt-irrefl d (lt-of-lt-of-le (r .below x (le-refl x) k) (le-trans (up-to-here x (omega arith)) g)))
-          or-below false f = ltb-false x count f
+      reaches g = le-of-suc-le-suc (lt-of-not-le (λ k. lt-irrefl d (lt-of-lt-of-le (r .below x (le-refl x) k) (le-trans (in-order cdt e x count (r .at-most) h) g))))
 
       last : d < threshold cdt count → (i : ℕ) → x ≤ i → i < suc count → d < threshold cdt i
-      last here i g k = or-before (ltb i count) refl
-        where
-          or-before : (t : Bool) → ltb i count ≡ t → d < threshold cdt i
-          or-before true f = r .below i g (ltb-true i count f)
-          or-before false f =
-              let l : i ≡ count = le-antisymm (le-of-suc-le-suc k) (ltb-false i count f) in
-              subst (λ (j : ℕ). d < threshold cdt j) (sym l) here
+      last here i g k = ⊎-elim (λ same. rw same here) (λ before. r .below i g before) (eq-or-lt-of-le (le-of-suc-le-suc k))
 
       by : (t : Bool) → leb (threshold cdt count) d ≡ t → AtJust cdt d (suc count) (x + bit t)
       by true f =
@@ -63,7 +49,7 @@ module _ (cdt : List ℕ) (d : ℕ) where
           let all : x ≡ count = le-antisymm (r .at-most) (reaches here) in
           record {
             at-most = omega (arith, r .at-most);
-            at-or-above = λ i g. le-trans (up-to-here i (omega (arith, g, r .at-most))) here;
+            at-or-above = λ i g. le-trans (in-order cdt e i count (omega (arith, g, r .at-most)) h) here;
             below = λ i g k. absurd (omega (arith, all, g, k));
           }
       by false f =
@@ -81,13 +67,8 @@ module _ (cdt : List ℕ) (d : ℕ) where
 
   -- no two numbers fit
   just-one : (x x′ : ℕ) → AtJust cdt d 10 x → AtJust cdt d 10 x′ → x ≤ x′
-  just-one x x′ r r′ = by (ltb x′ x) refl
-    where
-      by : (t : Bool) → ltb x′ x ≡ t → x ≤ x′
-      by true f =
-          let h = ltb-true x′ x f in
-          absurd (lt-irrefl d (lt-of-lt-of-le (r′ .below x′ (le-refl x′) (omega (arith, r .at-most))) (r .at-or-above x′ h)))
-      by false f = ltb-false x′ x f
+  just-one x x′ r r′ =
+      le-of-suc-le-suc (lt-of-not-le (λ h. lt-irrefl d (lt-of-lt-of-le (r′ .below x′ (le-refl x′) (le-trans h (r .at-most))) (r .at-or-above x′ h))))
 
 pub base-sample-exactly : BaseSampleExactly
 unfolding baseSample

@@ -1,4 +1,5 @@
 pub mod Positions
+pub mod ProductSizes
 pub mod ProductLaws
 pub mod ProductTells
 pub mod Agreement

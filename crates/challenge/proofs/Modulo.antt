@@ -11,7 +11,6 @@ use borrow.Author.Tests.{leb-true, leb-false, le-leb, lt-leb, lt-ltb, le-ltb}
 use Rattle.challenge.specs.Product.{termAt, outputAt}
 use Rattle.challenge.specs.Modulo.{shiftedAt, coefficientAt, ProductModulo}
 use Rattle.challenge.proofs.Positions.{position-below}
-use Rattle.challenge.proofs.ProductLaws.{term-direct, term-wrapped}
 
 -- ** One position
 
@@ -27,6 +26,15 @@ module _ (key : List ℤ) (n base k c : ℕ) where
   shifted-behind : c + n ≤ k → shiftedAt key n base k c ≡ pos 0
   unfolding shiftedAt
   shifted-behind h = rw (le-leb c k (omega arith)) rw (le-ltb k (c + n) h)
+
+module _ (key : List ℤ) (n base i c : ℕ) where
+  term-direct : c ≤ i → termAt key n base i c ≡ getD key (base + (i - c)) (pos 0)
+  unfolding termAt
+  term-direct h = rw (le-leb c i h)
+
+  term-wrapped : i < c → termAt key n base i c ≡ negℤ (getD key (base + (i + n - c)) (pos 0))
+  unfolding termAt
+  term-wrapped h = rw (lt-leb c i h)
 
 -- a position that does not wrap is met in X ^ i, and one that wraps in X ^ (i + n)
 term-modulo : (key : List ℤ) (n base i c : ℕ) → i < n → c < n → termAt key n base i c ≡ shiftedAt key n base i c -ℤ shiftedAt key n base (i + n) c

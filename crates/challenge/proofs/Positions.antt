@@ -12,17 +12,14 @@ use Rattle.challenge.specs.Challenge.{lengthFits, positionsBelow, ascend
 pub record Challenge (n : ℕ) (challenge : List ℕ) : Type 0 where
   pub few : length challenge ≤ 64
   pub below : positionsBelow n challenge ≡ true
-  pub ascending : ascends challenge ≡ true
 
 pub challenge-of : (n : ℕ) (challenge : List ℕ) → isChallenge n challenge ≡ true → Challenge n challenge
 unfolding isChallenge
 challenge-of n challenge h =
     let fits = both-true (lengthFits n (length challenge)) _ (both-true (ltb 0 (length challenge)) _ h .1) in
-    let positions = both-true (positionsBelow n challenge) (ascends challenge) (fits .1) in
     record {
       few = leb-true (length challenge) 64 (both-true (leb (length challenge) 64) (leb (length challenge) n) (fits .0) .0);
-      below = positions .0;
-      ascending = positions .1;
+      below = both-true (positionsBelow n challenge) (ascends challenge) (fits .1) .0;
     }
 
 pub position-below : (n : ℕ) (challenge : List ℕ) (k : ℕ) → positionsBelow n challenge ≡ true → k < length challenge → getD challenge k 0 < n

@@ -1,6 +1,6 @@
 -- Laws of the tests: degrees, tests at every number below another, and refusals. Assumes nothing.
 use mathlib.Core.Path.{_≡_, refl, sym, ap, _∙_}
-use mathlib.Core.Bool.{Bool, true, false, not, _&&_, _||_, or-true, and-eq-true-iff, false≢true}
+use mathlib.Core.Bool.{Bool, true, false, not, _&&_, _||_, or-true, and-false, and-eq-true-iff, false≢true}
 use mathlib.Core.List.{List, [], _∷_}
 use mathlib.Core.Logic.{inl, inr, ⊎-elim}
 use types.Run.{OneOf}
@@ -9,7 +9,7 @@ use native.Mathlib.Nat.{not-suc-le-zero, le-of-suc-le-suc, le-antisymm}
 use native.Mathlib.Numerals.{add-one}
 use native.Mathlib.Omega.{arith}
 use lib.Dec.{leb, ltb, eqb}
-use borrow.Author.Tests.{eq-eqb, ne-eqb, eqb-true, leb-true, ltb-true, ltb-false, lt-leb, le-leb}
+use borrow.Author.Tests.{not-true, not-false, eq-eqb, ne-eqb, eqb-true, leb-true, ltb-true, ltb-false, lt-leb, le-leb}
 use Rattle.checks.specs.Checks.{among, degrees, isDegree, allBelow, unless}
 
 -- ** Two tests in one
@@ -17,14 +17,13 @@ use Rattle.checks.specs.Checks.{among, degrees, isDegree, allBelow, unle
 pub both-true : (a b : Bool) → (a && b) ≡ true → (a ≡ true) × (b ≡ true)
 both-true a b h = and-eq-true-iff a b .0 h
 
-pub and-false : (a : Bool) → (a && false) ≡ false
-and-false true = refl
-and-false false = refl
-
 -- what code tests by `|` and `<`, as the definitions have it: by `&&` and `leb`
+pub two-fail : (a b : Bool) → (not a || not b) ≡ not (a && b)
+two-fail true b = refl
+two-fail false b = refl
+
 pub three-fail : (a b c : Bool) → ((not a || not b) || not c) ≡ not (a && (b && c))
-three-fail true true c = refl
-three-fail true false c = refl
+three-fail true b c = two-fail b c
 three-fail false b c = refl
 
 pub four-fail : (a b c d : Bool) → (((not a || not b) || not c) || not d) ≡ not (a && (b && (c && d)))
@@ -37,6 +36,13 @@ below-not-above a b = by (ltb a b) refl
     by : (t : Bool) → ltb a b ≡ t → t ≡ not (leb b a)
     by true e = rw (lt-leb b a (ltb-true a b e))
     by false e = rw (le-leb b a (ltb-false a b e))
+
+-- a test that code makes, where it goes on and where it leaves
+pub holds : {made test : Bool} → made ≡ test → not made ≡ false → test ≡ true
+holds e h = sym e ∙ not-false _ h
+
+pub fails : {made test : Bool} → made ≡ test → not made ≡ true → test ≡ false
+fails e h = sym e ∙ not-true _ h
 
 -- ** Degrees
 

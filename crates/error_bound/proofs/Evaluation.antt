@@ -1,5 +1,5 @@
 -- How far the evaluation of the polynomial, step by step, is from the exact sum: 14 units at the end. Assumes nothing.
-use mathlib.Core.Path.{_≡_, refl, sym, ap, _∙_}
+use mathlib.Core.Path.{_≡_, refl, sym, ap, ap₂, _∙_}
 use Prim.Native.Nat.{ℕ, zero, suc, _+_, _-_, _*_, _/_, _%_, _^_, _≤_, _<_, min}
 use native.Mathlib.Nat.{le-trans, le-of-suc-le, mul-le-mul-left, mul-le-mul-right, pow-zero, pow-suc, div-add-mod', mod-lt, lt-div-mul-add, sub-add-cancel, sub-le, mul-div-le}
 use native.Mathlib.Numerals.{add-one}
@@ -74,24 +74,17 @@ close-step q n j a p m u l h hj c =
     }
 
 -- what the exact value's two parts, and the two errors, come to at the end
-unfoldable lastP : (q n j p m : ℕ) → ℕ
-lastP q n zero p m = p
-lastP q n (suc j) p m = lastP q n j (coefficient q j + n * m) (n * p)
+unfoldable lastParts : (q n j p m : ℕ) → ℕ × ℕ
+lastParts q n zero p m = (p, m)
+lastParts q n (suc j) p m = lastParts q n j (coefficient q j + n * m) (n * p)
 
-unfoldable lastM : (q n j p m : ℕ) → ℕ
-lastM q n zero p m = m
-lastM q n (suc j) p m = lastM q n j (coefficient q j + n * m) (n * p)
+unfoldable lastErrors : (j u l : ℕ) → ℕ × ℕ
+lastErrors zero u l = (u, l)
+lastErrors (suc j) u l = lastErrors j (nextAbove j l) (nextBelow j u)
 
-unfoldable lastAbove : (j u l : ℕ) → ℕ
-lastAbove zero u l = u
-lastAbove (suc j) u l = lastAbove j (nextAbove j l) (nextBelow j u)
-
-unfoldable lastBelow : (j u l : ℕ) → ℕ
-lastBelow zero u l = l
-lastBelow (suc j) u l = lastBelow j (nextAbove j l) (nextBelow j u)
-
-close-all : (q n j a p m u l : ℕ) → InRange q n → j ≤ 20 → Close q n j a p m u l → Close q n 0 (evaluate polynomial (scaled (reciprocal q) n) j a) (lastP q n j p m) (lastM q n j p m) (lastAbove j u l) (lastBelow j u l)
-unfolding evaluate lastP lastM lastAbove lastBelow
+close-all : (q n j a p m u l : ℕ) → InRange q n → j ≤ 20 → Close q n j a p m u l
+    → let parts = lastParts q n j p m in let errors = lastErrors j u l in Close q n 0 (evaluate polynomial (scaled (reciprocal q) n) j a) (parts .0) (parts .1) (errors .0) (errors .1)
+unfolding evaluate lastParts lastErrors
 close-all q n zero a p m u l h hj c = c
 close-all q n (suc j) a p m u l h hj c =
     rw (table-at j (le-trans hj (lit≤ tt)))
@@ -104,40 +97,26 @@ close-start q n =
     let f = coefficient-top q in
     record { small = lit≤ tt; above = rw e (omega arith); below = rw e (omega arith); ordered = lit≤ tt; narrow = rw f (lit≤ tt) }
 
-errors-above : lastAbove 20 0 240 ≤ 14 * 240
-unfolding lastAbove nextAbove nextBelow weight rest factorial
-errors-above = lit≤ tt
-
-errors-below : lastBelow 20 0 240 ≤ 14 * 240
-unfolding lastBelow nextAbove nextBelow weight rest factorial
-errors-below = lit≤ tt
+last-errors : let errors = lastErrors 20 0 240 in (errors .0 ≤ 14 * 240) × (errors .1 ≤ 14 * 240)
+unfolding lastErrors nextAbove nextBelow weight rest factorial
+last-errors = (lit≤ tt, lit≤ tt)
 
 -- The two parts at the end are the sums of the even and of the odd terms.
 module _ (q n : ℕ) where
   power-two-more : (k : ℕ) → n ^ suc (suc k) ≡ n ^ k * n * n
   power-two-more k = pow-suc n (suc k) ∙ ap (λ (x : ℕ). x * n) (pow-suc n k)
 
-  lastP-sum : (i p m : ℕ) → lastP q n (2 * i) p m ≡ sum (λ (i : ℕ). size q n (2 * i)) i + n ^ (2 * i) * p
-  unfolding lastP sum
-  lastP-sum zero p m = rw pow-zero (omega arith)
-  lastP-sum (suc i) p m =
+  parts-sum : (i p m : ℕ) → lastParts q n (2 * i) p m ≡ (sum (λ (i : ℕ). size q n (2 * i)) i + n ^ (2 * i) * p, sum (λ (i : ℕ). size q n (2 * i + 1)) i + n ^ (2 * i) * m)
+  unfolding lastParts sum
+  parts-sum zero p m = rw pow-zero (ap₂ (λ (x y : ℕ). (x, y)) (omega arith) (omega arith))
+  parts-sum (suc i) p m =
       let e : 2 * suc i ≡ suc (suc (2 * i)) = omega arith in
-      rw (e, power-two-more (2 * i)) (omega (arith, lastP-sum i (coefficient q (2 * i) + n * (n * p)) (n * (coefficient q (suc (2 * i)) + n * m))))
+      rw (e, power-two-more (2 * i), add-one, pow-suc n (2 * i))
+      (parts-sum i (coefficient q (2 * i) + n * (n * p)) (n * (coefficient q (suc (2 * i)) + n * m)) ∙ ap₂ (λ (x y : ℕ). (x, y)) (omega arith) (omega arith))
 
-  lastM-sum : (i p m : ℕ) → lastM q n (2 * i) p m ≡ sum (λ (i : ℕ). size q n (2 * i + 1)) i + n ^ (2 * i) * m
-  unfolding lastM sum
-  lastM-sum zero p m = rw pow-zero (omega arith)
-  lastM-sum (suc i) p m =
-      let e : 2 * suc i ≡ suc (suc (2 * i)) = omega arith in
-      rw (e, power-two-more (2 * i), add-one, pow-suc n (2 * i)) (omega (arith, lastM-sum i (coefficient q (2 * i) + n * (n * p)) (n * (coefficient q (suc (2 * i)) + n * m))))
-
-  lastP-added : lastP q n 20 1 0 ≡ added q n
-  unfolding added sum
-  lastP-added = lastP-sum 10 1 0 ∙ ap (λ (x : ℕ). sum (λ (i : ℕ). size q n (2 * i)) 10 + n ^ 20 * x) (sym (coefficient-top q))
-
-  lastM-taken : lastM q n 20 1 0 ≡ taken q n
-  unfolding taken sum
-  lastM-taken = lastM-sum 10 1 0 ∙ (omega arith)
+  last-parts : lastParts q n 20 1 0 ≡ (added q n, taken q n)
+  unfolding added taken sum
+  last-parts = parts-sum 10 1 0 ∙ ap₂ (λ (x y : ℕ). (x, y)) (ap (λ (x : ℕ). sum (λ (i : ℕ). size q n (2 * i)) 10 + n ^ 20 * x) (sym (coefficient-top q))) (omega arith)
 
 entry-top : polynomialEntry 20 ≡ 1
 unfolding factorial
@@ -147,8 +126,8 @@ whole-value : (a : ℕ) → a * factorial 0 ≤ 2 ^ 62 → a ≤ 2 ^ 62
 unfolding factorial
 whole-value a h = omega arith
 
-close-end : (q n : ℕ) → InRange q n → Close q n 0 (evaluate polynomial (scaled (reciprocal q) n) 20 (getD polynomial 20 0)) (added q n) (taken q n) (lastAbove 20 0 240) (lastBelow 20 0 240)
-close-end q n h = rw (table-at 20 (lit≤ tt), ← lastP-added q n, ← lastM-taken q n) (rw entry-top (close-all q n 20 1 1 0 0 240 h (lit≤ tt) (close-start q n)))
+close-end : (q n : ℕ) → InRange q n → Close q n 0 (evaluate polynomial (scaled (reciprocal q) n) 20 (getD polynomial 20 0)) (added q n) (taken q n) (lastErrors 20 0 240 .0) (lastErrors 20 0 240 .1)
+close-end q n h = rw (table-at 20 (lit≤ tt), ← ap (λ (x : ℕ × ℕ). x .0) (last-parts q n), ← ap (λ (x : ℕ × ℕ). x .1) (last-parts q n)) (rw entry-top (close-all q n 20 1 1 0 0 240 h (lit≤ tt) (close-start q n)))
 
 pub parts-ordered : (q n : ℕ) → InRange q n → taken q n ≤ added q n
 parts-ordered q n h = close-end q n h .ordered
@@ -161,6 +140,6 @@ polynomial-near q n h =
     record {
       whole = whole-value a (c .small);
       proper = omega (arith, c .narrow, coefficient-zero q, parts);
-      above = rw (← scale-zero q) (omega (arith, c .above, mul-le-mul-right (scale q 0) errors-above, ap (λ (x : ℕ). 2 ^ 62 * x) parts));
-      below = rw (← scale-zero q) (omega (arith, c .below, mul-le-mul-right (scale q 0) errors-below, ap (λ (x : ℕ). 2 ^ 62 * x) parts));
+      above = rw (← scale-zero q) (omega (arith, c .above, mul-le-mul-right (scale q 0) (last-errors .0), ap (λ (x : ℕ). 2 ^ 62 * x) parts));
+      below = rw (← scale-zero q) (omega (arith, c .below, mul-le-mul-right (scale q 0) (last-errors .1), ap (λ (x : ℕ). 2 ^ 62 * x) parts));
     }

@@ -1,11 +1,13 @@
 -- The exact fraction's numerator, an integer, as the difference of the sums of its even and of its odd terms. Assumes nothing.
 use mathlib.Core.Path.{_≡_, refl, sym, ap, ap₂, subst⁻¹, _∙_}
+use mathlib.Core.Bool.{Bool, true, false, cond}
 use Prim.Native.Nat.{ℕ, zero, suc, _+_, _-_, _*_, _^_, _≤_}
 use native.Mathlib.Nat.{mul-zero, zero-mul, pow-suc, pow-zero, sub-add-cancel}
-use native.Mathlib.Decide.{decLe}
 use native.Mathlib.Numerals.{add-one}
 use native.Mathlib.Omega.{arith}
-use lib.IntN.{ℤ, pos, one, negℤ, natAbs, pow, _+ℤ_, _-ℤ_, _*ℤ_, +ℤ-assoc, +ℤ-comm, +ℤ-negℤ-cancel, negℤ-+ℤ, negℤ-negℤ}
+use lib.Dec.{ltb}
+use lib.IntN.{ℤ, pos, negsuc, one, negℤ, natAbs, pow, _+ℤ_, _-ℤ_, _*ℤ_, +ℤ-assoc, +ℤ-comm, +ℤ-negℤ-cancel, negℤ-+ℤ}
+use borrow.Author.Tests.{ltb-true}
 use Rattle.error_bound.specs.Exact.{sumℤ, coefficient, term, numerator, denominator, Within}
 
 -- f 0 + f 1 + .. + f (k - 1)
@@ -89,16 +91,13 @@ unfolding pow one
 power-is x zero = rw pow-zero
 power-is x (suc k) = rw (power-is x k, pow-suc x k)
 
-abs-neg : (x : ℕ) → natAbs (negℤ (pos x)) ≡ x
-abs-neg zero = refl
-abs-neg (suc x) = refl
-
-reverse : (a b : ℕ) → pos a -ℤ pos b ≡ negℤ (pos b -ℤ pos a)
-reverse a b = +ℤ-comm (pos a) (negℤ (pos b)) ∙ sym (negℤ-+ℤ (pos b) (negℤ (pos a)) ∙ ap (λ (t : ℤ). negℤ (pos b) +ℤ t) (negℤ-negℤ (pos a)))
-
-distance-cases : (a b k : ℕ) → a ≤ b + k → b ≤ a + k → Dec (b ≤ a) → natAbs (pos a -ℤ pos b) ≤ k
-distance-cases a b k u l (yes h) = rw (difference a b h) (omega arith)
-distance-cases a b k u l (no h) = rw (reverse a b, difference b a (omega arith), abs-neg (b - a)) (omega arith)
+distance : (a b k : ℕ) → a ≤ b + k → b ≤ a + k → natAbs (pos a -ℤ pos b) ≤ k
+distance a zero k u l = omega arith
+distance a (suc b) k u l = by (ltb a (suc b)) refl
+  where
+    by : (t : Bool) → ltb a (suc b) ≡ t → natAbs (cond t (negsuc (suc b - suc a)) (pos (a - suc b))) ≤ k
+    by true e = omega (arith, ltb-true a (suc b) e)
+    by false e = omega arith
 
 numerator-power : (q n : ℕ) → taken q n ≤ added q n → pow (numerator q n) 64 ≡ pos ((added q n - taken q n) ^ 64)
 numerator-power q n h = ap (λ (x : ℤ). pow x 64) (numerator-is q n h) ∙ power-is (added q n - taken q n) 64
@@ -110,4 +109,4 @@ within k x q n h u l =
     let X = x * denominator q ^ 64 in
     let S = 2 ^ 62 * (added q n - taken q n) ^ 64 in
     subst⁻¹ (λ (z : ℤ). natAbs (pos X -ℤ pos (2 ^ 62) *ℤ z) ≤ k * denominator q ^ 64) (numerator-power q n h)
-    (distance-cases X S (k * denominator q ^ 64) u l (decLe S X))
+    (distance X S (k * denominator q ^ 64) u l)

@@ -6,18 +6,19 @@ use native.Mathlib.Omega.{arith}
 use lib.Pow.{pow-pos, pow-add}
 use Rattle.exponential.specs.Exponential.{squared, squarings}
 use Rattle.exponential.proofs.Table.{product-small}
-use Rattle.error_bound.proofs.ErrorStep.{square-above, square-below}
+use Rattle.error_bound.proofs.ErrorStep.{square}
 use Rattle.error_bound.proofs.Near.{Near, quotient-high}
 
 near-square : (E a S D : ℕ) → Near E a S D → Near (2 * E + 1) (squared a) (S * S) (D * D)
 unfolding squared
 near-square E a S D c =
     let low : 2 ^ 62 * (a * a / 2 ^ 62) ≤ a * a + 2 ^ 62 = omega (arith, mul-div-le (a * a) (2 ^ 62)) in
+    let both = square (2 ^ 62) D S a (a * a / 2 ^ 62) E (pow-pos 62) (c .whole) (c .proper) low (quotient-high (a * a)) (c .above) (c .below) in
     record {
       whole = le-trans (product-small a a (c .whole)) (c .whole);
       proper = mul-le-mul (c .proper) (c .proper);
-      above = square-above (2 ^ 62) D S a (a * a / 2 ^ 62) E (pow-pos 62) (c .whole) (c .proper) low (quotient-high (a * a)) (c .above) (c .below);
-      below = square-below (2 ^ 62) D S a (a * a / 2 ^ 62) E (pow-pos 62) (c .whole) (c .proper) low (quotient-high (a * a)) (c .above) (c .below);
+      above = both .0;
+      below = both .1;
     }
 
 -- the power and the error after i squarings

@@ -1,3 +1,3 @@
--- Laws on plain numbers and lists that the proofs cite, and the bound on the error.
+-- Laws on plain numbers and lists that the proofs cite.
 pub mod Table
 pub mod Steps

@@ -1,11 +1,11 @@
--- One turn of a loop that counts down is one step of the definition. Assumes nothing.
+-- One turn of a loop that counts down is one step of the definition, and the steps make the exponential. Assumes nothing.
 use mathlib.Core.Path.{_≡_, refl, ap, _∙_}
 use mathlib.Core.List.{List}
 use Prim.Native.Nat.{ℕ, zero, suc, _-_, _*_, _/_, _^_, _≤_, _<_}
 use native.Mathlib.Nat.{not-suc-le-zero, le-trans, le-mul-of-pos-right, mul-le-mul-right, sub-le}
 use native.Mathlib.Omega.{arith}
 use lib.ListN.{length, getD}
-use Rattle.exponential.specs.Exponential.{factorial, polynomialEntry, entriesFrom, polynomial, evaluate, squared, squarings}
+use Rattle.exponential.specs.Exponential.{factorial, polynomialEntry, entriesFrom, polynomial, scaled, evaluate, squared, squarings, expScaled}
 use Rattle.exponential.proofs.Table.{factorial-pos, entry-low, small-entry, table-at}
 
 before-suc : (k : ℕ) → suc k - 1 ≡ k
@@ -69,10 +69,10 @@ pub record Evaluating (table : List ℕ) (v a j : ℕ) : Type 0 where
 pub evaluating-starts : (table : List ℕ) (v : ℕ) → Evaluating table v 0 21
 evaluating-starts table v = record { count = omega arith; small = omega arith; value = evaluate-start table v }
 
-pub evaluating-ends : (table : List ℕ) (v a j : ℕ) → j ≤ 0 → Evaluating table v a j → (a ≡ evaluate table v 20 (getD table 20 0)) × (a ≤ 2 ^ 62)
-evaluating-ends table v a j h e = (evaluate-end table v j a h ∙ e .value, le-trans (le-mul-of-pos-right a (factorial-pos j)) (e .small))
+pub evaluating-ends : {table : List ℕ} {v a j : ℕ} → j ≤ 0 → Evaluating table v a j → (a ≡ evaluate table v 20 (getD table 20 0)) × (a ≤ 2 ^ 62)
+evaluating-ends {table} {v} {a} {j} h e = (evaluate-end table v j a h ∙ e .value, le-trans (le-mul-of-pos-right a (factorial-pos j)) (e .small))
 
-module _ (table : List ℕ) (is : table ≡ polynomial) (v a j : ℕ) (more : 0 < j) (e : Evaluating table v a j) where
+module _ {table : List ℕ} (is : table ≡ polynomial) {v a j : ℕ} (more : 0 < j) (e : Evaluating table v a j) where
   -- a step is the difference of two numbers
   pub evaluating-asks : (a ≤ getD table (j - 1) 0) × (getD table (j - 1) 0 ≤ 2 ^ 62)
   evaluating-asks = (read-above table is j a more (e .count) (e .small), read-le table is j more (e .count))
@@ -83,3 +83,10 @@ module _ (table : List ℕ) (is : table ≡ polynomial) (v a j : ℕ) (more : 0 
     small = le-trans (mul-le-mul-right (factorial (j - 1)) (sub-le _ _)) (read-small table is j more (e .count));
     value = evaluate-step table v j a more ∙ e .value;
   }
+
+-- ** The whole exponential
+
+-- v, the evaluation and the six squarings are those of the definition
+pub exp-in-steps : (table : List ℕ) (r n : ℕ) {v a e : ℕ} → v ≡ n * r / 2 ^ 22 → a ≡ evaluate table v 20 (getD table 20 0) → e ≡ squarings 6 a → e ≡ expScaled table r n
+unfolding expScaled scaled
+exp-in-steps table r n ev ea ee = ee ∙ rw (ea, ev)

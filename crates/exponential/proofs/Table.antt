@@ -9,7 +9,7 @@ use borrow.Author.Tests.{eq-eqb, eqb-true}
 use lib.Pow.{pow-pos}
 use lib.Dec.{eqb}
 use lib.ListN.{getD}
-use Rattle.exponential.specs.Exponential.{factorial, polynomialEntry, entriesFrom, polynomial, sameWords, isPolynomial, reciprocal, divisorAt, divisor}
+use Rattle.exponential.specs.Exponential.{factorial, polynomialEntry, entriesFrom, polynomial, sameWords, isPolynomial, reciprocal, expScaled, expWith, divisorAt, divisor}
 
 -- ** Factorials
 
@@ -91,3 +91,8 @@ divisor-at-215 = refl
 pub reciprocal-215 : reciprocal divisor ≡ 3269134179596076729
 unfolding reciprocal
 reciprocal-215 = refl
+
+-- e(N), by the constant R
+pub by-215 : (table : List ℕ) → expScaled table 3269134179596076729 ≡ expWith table divisor
+unfolding expWith
+by-215 table = ap (expScaled table) (sym reciprocal-215)

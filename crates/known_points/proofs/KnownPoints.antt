@@ -1,6 +1,6 @@
 -- The known points. Those that leave no word open are computed. Assumes nothing.
 use mathlib.Core.Path.{_≡_, refl, ap, ap₂, _∙_}
-use mathlib.Core.Bool.{true, false, _&&_}
+use mathlib.Core.Bool.{true, false, _&&_, and-false}
 use mathlib.Core.List.{List, [], _∷_}
 use Prim.Native.Nat.{ℕ, _+_, _-_, _*_, _/_, _%_, _^_, _≤_, _<_}
 use native.Mathlib.Nat.{mul-lt-mul-of-pos-right}
@@ -10,7 +10,6 @@ use lib.Dec.{leb, ltb, eqb}
 use lib.IntN.{ℤ, pos, negsuc}
 use borrow.Author.Tests.{lt-ltb, le-ltb, lt-leb}
 use Rattle.checks.specs.Checks.{among, isDegree, allBelow, unless}
-use Rattle.checks.proofs.Laws.{and-false}
 use Rattle.signed.specs.Vectors.{allWithin, squareSum, innerProduct}
 use Rattle.exponential.specs.Exponential.{factorial, entriesFrom, polynomial, sameWords, isPolynomial, reciprocal, scaled, evaluate, squared, squarings, expScaled, expWith, exp, expOrRefusal}
 use Rattle.base_sample.specs.BaseSample.{wordsSmall, neverFalls, isCdt, atOrBelow, baseSample}

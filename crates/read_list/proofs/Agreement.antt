@@ -22,7 +22,7 @@ placesUp-has kind place (suc count) p l h =
     (λ g. List·Memᴰ·tail (placesUp-has kind (suc place) count p g (omega arith)))
     (eq-or-lt-of-le l)
 
-module _ (a b : Lent) where
+module _ {a b : Lent} where
   -- ** Part by part
 
   pub agree-first : (es fs : List ℕ) → Agree a b (es ++ fs) → Agree a b es
@@ -31,11 +31,11 @@ module _ (a b : Lent) where
   pub agree-rest : (es fs : List ℕ) → Agree a b (es ++ fs) → Agree a b fs
   agree-rest es fs same e m = same e (Memᴰ·append-right es m)
 
-  pub agree-head : (e : ℕ) (es : List ℕ) → Agree a b (e ∷ es) → SameAt a b e
-  agree-head e es same = same e (List·Memᴰ·head refl)
+  pub agree-head : {e : ℕ} {es : List ℕ} → Agree a b (e ∷ es) → SameAt a b e
+  agree-head {e} same = same e (List·Memᴰ·head refl)
 
-  pub agree-tail : (e : ℕ) (es : List ℕ) → Agree a b (e ∷ es) → Agree a b es
-  agree-tail e es same f m = same f (List·Memᴰ·tail m)
+  pub agree-tail : {e : ℕ} {es : List ℕ} → Agree a b (e ∷ es) → Agree a b es
+  agree-tail same f m = same f (List·Memᴰ·tail m)
 
   -- at each place of a run
   pub agree-placesUp : (kind place count : ℕ) → Agree a b (placesUp kind place count) → (p : ℕ) → place ≤ p → p < place + count → SameAt a b (entry kind p)

@@ -1,9 +1,8 @@
 -- Entries taken apart, and entries written one after the other. Assumes nothing.
-use mathlib.Core.Path.{_≡_, refl, sym, ap, _∙_}
+use mathlib.Core.Path.{_≡_, refl, ap, _∙_}
 use mathlib.Core.List.{List, [], _∷_, _++_, append-nil}
 use Prim.Native.Nat.{ℕ, zero, suc, _+_, _-_, _^_, _≤_, _<_}
 use native.Mathlib.Nat.{not-suc-le-zero, add-zero, zero-add, add-suc, suc-add}
-use native.Mathlib.Numerals.{add-one}
 use native.Mathlib.Omega.{arith}
 use borrow.Author.Tests.{le-leb}
 use lib.Arith.{digits-div, digits-mod}
@@ -19,42 +18,40 @@ kind-of-entry kind h = digits-div kind h
 pub place-of-entry : (kind : ℕ) {place : ℕ} → place < 2 ^ 24 → placeOf (entry kind place) ≡ place
 place-of-entry kind h = digits-mod kind h
 
--- ** Runs of entries
+-- ** Entries written one after the other
+
+-- what is written behind what was written, and both together
+pub sets-sets : {A : Type 0} (list : List A) (at end : ℕ) (es fs : List A) → end ≡ at + length es → sets (sets list at es) end fs ≡ sets list at (es ++ fs)
+sets-sets list at end [] fs h = ap (λ (i : ℕ). sets list i fs) (h ∙ add-zero at)
+sets-sets list at end (e ∷ es) fs h = sets-sets (set list at e) (suc at) end es fs (omega (arith, h))
+
+-- the same of lists that are known by equations
+pub written-behind : {A : Type 0} (list : List A) {list₁ list₂ : List A} (at end : ℕ) (es fs : List A) → list₁ ≡ sets list at es → list₂ ≡ sets list₁ end fs → end ≡ at + length es → list₂ ≡ sets list at (es ++ fs)
+written-behind list at end es fs e₁ e₂ h = e₂ ∙ rw e₁ (sets-sets list at end es fs h)
+
+-- what is written over a whole list
+pub sets-whole : {A : Type 0} (list es : List A) → length es ≡ length list → sets list 0 es ≡ es
+sets-whole list es h = sets-eq es list 0 (omega (arith, h)) ∙ rw (zero-add, h, drop-length list) (append-nil es)
+
+-- ** Runs of entries, the lowest place first
 
 pub length-placesUp : (kind place count : ℕ) → length (placesUp kind place count) ≡ count
 unfolding placesUp
 length-placesUp kind place zero = refl
 length-placesUp kind place (suc count) = ap suc (length-placesUp kind (suc place) count)
 
-pub length-placesDown : (kind count : ℕ) → length (placesDown kind count) ≡ count
-unfolding placesDown
-length-placesDown kind zero = refl
-length-placesDown kind (suc count) = ap suc (length-placesDown kind count)
-
--- entries written one after the other
-pub sets-append : {A : Type 0} (list : List A) (at : ℕ) (es fs : List A) → sets list at (es ++ fs) ≡ sets (sets list at es) (at + length es) fs
-sets-append list at [] fs = ap (λ (i : ℕ). sets list i fs) (sym (add-zero at))
-sets-append list at (e ∷ es) fs =
-    sets-append (set list at e) (suc at) es fs
-    ∙ ap (λ (i : ℕ). sets (sets (set list at e) (suc at) es) i fs) (suc-add at (length es) ∙ sym (add-suc at (length es)))
-
--- what is written over a whole list
-pub sets-whole : {A : Type 0} (list es : List A) → length es ≡ length list → sets list 0 es ≡ es
-sets-whole list es h =
-    let all : 0 + length es ≡ length list = omega (arith, h) in
-    sets-eq es list 0 (omega (arith, h)) ∙ ap (λ (k : ℕ). es ++ drop k list) all ∙ ap (λ (rest : List _). es ++ rest) (drop-length list) ∙ append-nil es
-
--- ** Entries written one by one, the lowest place first
-
-pub placesUp-step : (kind : ℕ) (l : List ℕ) (i place count : ℕ) → sets (set l i (entry kind place)) (i + 1) (placesUp kind (place + 1) count) ≡ sets l i (placesUp kind place (count + 1))
+placesUp-snoc : (kind place count : ℕ) → placesUp kind place count ++ (entry kind (place + count) ∷ []) ≡ placesUp kind place (suc count)
 unfolding placesUp
-placesUp-step kind l i place count = rw (add-one i, add-one place, add-one count)
+placesUp-snoc kind place zero = rw (add-zero place)
+placesUp-snoc kind place (suc count) = ap (λ (es : List ℕ). entry kind place ∷ es) (rw (add-suc place count, ← suc-add place count) (placesUp-snoc kind (suc place) count))
 
-pub placesUp-end : (kind : ℕ) (l : List ℕ) (i place count : ℕ) → count ≡ 0 → l ≡ sets l i (placesUp kind place count)
-unfolding placesUp
-placesUp-end kind l i place count e = rw e
+-- one more is written
+pub placesUp-more : (kind place count : ℕ) (list : List ℕ) (at : ℕ) {list₁ list₂ : List ℕ} {i p : ℕ} → list₁ ≡ sets list at (placesUp kind place count) → list₂ ≡ set list₁ i (entry kind p)
+    → i ≡ at + count → p ≡ place + count → list₂ ≡ sets list at (placesUp kind place (suc count))
+placesUp-more kind place count list at {i = i} {p = p} e₁ e₂ ei ep =
+    rw (← placesUp-snoc kind place count, ← ep) (written-behind list at i (placesUp kind place count) (entry kind p ∷ []) e₁ e₂ (omega (arith, ei, length-placesUp kind place count)))
 
--- ** Entries written one by one, the highest place first
+-- ** Runs of entries, the highest place first
 
 pub placesDown-step : (kind : ℕ) (l : List ℕ) (i j : ℕ) → 0 < j → sets (set l i (entry kind (j - 1))) (suc i) (placesDown kind (j - 1)) ≡ sets l i (placesDown kind j)
 unfolding placesDown

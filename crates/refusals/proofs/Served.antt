@@ -14,8 +14,8 @@ use Rattle.checks.proofs.Laws.{both-true, passed}
 use Rattle.exponential.specs.Exponential.{polynomial, isPolynomial}
 use Rattle.exponential.proofs.Table.{polynomial-of}
 use Rattle.base_sample.specs.BaseSample.{wordsSmall, neverFalls, isCdt}
-use Rattle.challenge.specs.Challenge.{positionsBelow, ascends, isChallenge}
-use Rattle.challenge.proofs.Positions.{challenge-of}
+use Rattle.challenge.specs.Challenge.{isChallenge}
+use Rattle.challenge.proofs.Positions.{Challenge, challenge-of}
 use Rattle.refusals.specs.Refusals.{drawRefusal, respondRefusal}
 
 -- a draw
@@ -23,10 +23,8 @@ pub record DrawServed (n limit : ℕ) (cdt table : List ℕ) (words y list : ℕ
   pub degree : isDegree n ≡ true
   pub twenty : length cdt ≡ 20
   pub small : wordsSmall cdt ≡ true
-  pub in-order : neverFalls cdt ≡ true
   pub is-polynomial : table ≡ polynomial
   pub both : y ≡ 2 * n
-  pub limit-low : 2 * n ≤ limit
   pub limit-high : limit ≤ 32 * n
   pub words-enough : 4 * limit ≤ words
   pub list-enough : 46 * limit + 2 ≤ list
@@ -42,17 +40,13 @@ draw-served n limit cdt table words y list h =
     let p7 = passed (leb (4 * limit) words) 7 _ (omega arith) (p5 .1) in
     let p8 = passed (leb (46 * limit + 2) list) 8 _ (omega arith) (p7 .1) in
     let sizes = both-true (eqb (length cdt) 20) _ (p2 .0) in
-    let cdts = both-true (wordsSmall cdt) (neverFalls cdt) (p3 .0) in
-    let limits = both-true (leb (2 * n) limit) _ (p5 .0) in
     record {
       degree = p1 .0;
       twenty = eqb-true (length cdt) 20 (sizes .0);
-      small = cdts .0;
-      in-order = cdts .1;
+      small = both-true (wordsSmall cdt) (neverFalls cdt) (p3 .0) .0;
       is-polynomial = polynomial-of table (p4 .0);
       both = eqb-true y (2 * n) (both-true (eqb (length table) 21) _ (sizes .1) .1);
-      limit-low = leb-true (2 * n) limit (limits .0);
-      limit-high = leb-true limit (32 * n) (limits .1);
+      limit-high = leb-true limit (32 * n) (both-true (leb (2 * n) limit) _ (p5 .0) .1);
       words-enough = leb-true (4 * limit) words (p7 .0);
       list-enough = leb-true (46 * limit + 2) list (p8 .0);
     }
@@ -64,9 +58,7 @@ pub record RespondServed (n : ℕ) (drawn : Bool) (challenge table : List ℕ) (
   pub y-both : length y ≡ 2 * n
   pub z-both : z ≡ 2 * n
   pub key-both : length key ≡ 2 * n
-  pub few : length challenge ≤ 64
-  pub below : positionsBelow n challenge ≡ true
-  pub ascending : ascends challenge ≡ true
+  pub positions : Challenge n challenge
   pub words-enough : 3 ≤ words
   pub list-enough : 2 * n * length challenge + 47 ≤ list
   pub is-drawn : drawn ≡ true
@@ -88,16 +80,13 @@ respond-served n drawn challenge table words key y z list h =
     let p11 = passed (allWithin 2815 y) 11 _ (omega arith) (p10 .1) in
     let sizes = both-true (eqb (length y) (2 * n)) _ (both-true (eqb (length table) 21) _ (p2 .0) .1) in
     let z-key = both-true (eqb z (2 * n)) (eqb (length key) (2 * n)) (sizes .1) in
-    let positions = challenge-of n challenge (p6 .0) in
     record {
       degree = p1 .0;
       is-polynomial = polynomial-of table (p4 .0);
       y-both = eqb-true (length y) (2 * n) (sizes .0);
       z-both = eqb-true z (2 * n) (z-key .0);
       key-both = eqb-true (length key) (2 * n) (z-key .1);
-      few = positions .few;
-      below = positions .below;
-      ascending = positions .ascending;
+      positions = challenge-of n challenge (p6 .0);
       words-enough = leb-true 3 words (p7 .0);
       list-enough = leb-true (2 * n * length challenge + 47) list (p8 .0);
       is-drawn = p9 .0;

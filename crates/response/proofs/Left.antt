@@ -1,17 +1,17 @@
 -- What a response leaves, from its parts. Assumes nothing.
-use mathlib.Core.Path.{_≡_, sym, ap, _∙_}
+use mathlib.Core.Path.{_≡_, ap, _∙_}
 use mathlib.Core.Bool.{Bool, cond}
 use mathlib.Core.List.{List, _∷_, _++_, append-assoc}
-use Prim.Native.Nat.{ℕ, _+_, _-_, _*_}
+use Prim.Native.Nat.{ℕ, _+_, _*_}
 use native.Mathlib.Omega.{arith}
 use lib.ListN.{length, replicate, length-append}
 use lib.Seq.{sets}
 use lib.IntN.{ℤ, pos}
 use Rattle.arithmetic.specs.Words.{bit}
 use Rattle.read_list.specs.Entries.{entry, placesUp}
-use Rattle.read_list.proofs.Laws.{length-placesUp, sets-append}
+use Rattle.read_list.proofs.Laws.{length-placesUp, sets-sets}
 use Rattle.challenge.specs.Product.{productEntries}
-use Rattle.challenge.proofs.ProductLaws.{length-productEntries}
+use Rattle.challenge.proofs.ProductSizes.{length-productEntries}
 use Rattle.acceptance.specs.Acceptance.{acceptanceEntries}
 use Rattle.response.specs.Response.{respondEntries, respondedBy}
 use Rattle.response.proofs.RespondTells.{length-respondEntries}
@@ -24,8 +24,7 @@ judged-written n accepted challenge list =
     let words = placesUp 2 0 3 in
     let rest = acceptanceEntries accepted in
     let first = entry 7 n ∷ (product ++ words) in
-    ap (λ (p : ℕ). sets (sets list 0 first) p rest) (omega (arith, length-append product words, length-productEntries n challenge, length-placesUp 2 0 3))
-    ∙ sym (sets-append list 0 first rest)
+    sets-sets list 0 _ first rest (omega (arith, length-append product words, length-productEntries n challenge, length-placesUp 2 0 3))
     ∙ ap (λ (es : List ℕ). sets list 0 (entry 7 n ∷ es)) (append-assoc product words rest)
 
 pub response-left : (n : ℕ) (accepted bit₁ : Bool) (challenge : List ℕ) (z : List ℤ) (list : List ℕ) (entries : ℕ) (y y₁ z₁ z₂ : List ℤ) (l₁ l₂ : List ℕ)

@@ -1,5 +1,5 @@
 -- Laws of the response: its values and bounds, and one place more. Assumes nothing.
-use mathlib.Core.Path.{_≡_, refl, sym, ap, ap₂, _∙_}
+use mathlib.Core.Path.{_≡_, refl, sym, ap, _∙_}
 use mathlib.Core.Bool.{Bool, true, false, cond}
 use mathlib.Core.List.{List, [], _∷_, _++_, append-nil}
 use Prim.Native.Nat.{ℕ, zero, suc, _+_, _*_, _≤_, _<_}
@@ -11,7 +11,7 @@ use lib.Seq.{take-suc, take-all, drop-cons, drop-length, append-snoc, set-at, ge
 use lib.IntN.{ℤ, pos, negℤ, natAbs, _+ℤ_, _*ℤ_, +ℤ-idl, +ℤ-idr, +ℤ-assoc}
 use Rattle.signed.specs.Vectors.{allWithin, squareSum, innerProduct}
 use Rattle.signed.proofs.Signs.{abs-neg, abs-add, abs-mul}
-use Rattle.signed.proofs.Vectors.{within-parts, within-none, within-more, squares-none, squares-within, squares-from, inner-from, inner-none, inner-within}
+use Rattle.signed.proofs.Vectors.{within-parts, within-none, within-more, squares-within, inner-within}
 use Rattle.response.specs.Response.{responseOf}
 
 -- ** The values
@@ -54,58 +54,51 @@ pub record Added (whole sc z : List ℤ) (norm : ℕ) (inner : ℤ) (i : ℕ) : 
   pub inner-is : inner +ℤ innerProduct (drop i whole) (drop i sc) ≡ innerProduct whole sc
   pub inner-small : natAbs inner ≤ 1461824 * i
 
-module _ (whole sc : List ℤ) (lengths : length whole ≡ length sc) where
-  pub add-start : Added whole sc sc 0 (pos 0) 0
-  add-start = record { turns = omega arith; size = refl; mixed = refl; norm-is = omega arith; inner-is = +ℤ-idl (innerProduct whole sc); inner-small = omega arith }
+pub add-start : (whole sc : List ℤ) → Added whole sc sc 0 (pos 0) 0
+add-start whole sc = record { turns = omega arith; size = refl; mixed = refl; norm-is = omega arith; inner-is = +ℤ-idl (innerProduct whole sc); inner-small = omega arith }
 
-  module _ (z : List ℤ) (norm : ℕ) (inner : ℤ) (i : ℕ) (s : Added whole sc z norm inner i) (h : i < length sc) where
+module _ {whole sc z : List ℤ} {norm : ℕ} {inner : ℤ} {i : ℕ} (lengths : length whole ≡ length sc) (s : Added whole sc z norm inner i) where
+  module _ (h : i < length sc) where
     -- the product still stands at the place
     pub product-stands : getD z i (pos 0) ≡ getD sc i (pos 0)
     product-stands =
-        ap (λ (l : List ℤ). getD l i (pos 0)) (s .mixed ∙ ap (λ (l : List ℤ). take i whole ++ l) (drop-cons sc i (pos 0) h))
-        ∙ getD-at (take i whole) (getD sc i (pos 0)) (drop (suc i) sc) (pos 0) i (length-take-le i whole (omega arith))
+        rw (s .mixed, drop-cons sc i (pos 0) h) (getD-at (take i whole) (getD sc i (pos 0)) (drop (suc i) sc) (pos 0) i (length-take-le i whole (omega arith)))
 
     pub norm-within : norm + natAbs (getD whole i (pos 0)) * natAbs (getD whole i (pos 0)) ≤ squareSum whole
-    norm-within = omega (arith, s .norm-is, squares-from whole i (omega arith))
+    unfolding squareSum
+    norm-within = omega (arith, rw (drop-cons whole i (pos 0) (omega arith)) at (s .norm-is))
 
     mixed-more : set (take i whole ++ drop i sc) i (getD whole i (pos 0)) ≡ take (i + 1) whole ++ drop (i + 1) sc
     mixed-more =
-        ap (λ (l : List ℤ). set (take i whole ++ l) i (getD whole i (pos 0))) (drop-cons sc i (pos 0) h)
-        ∙ set-at (take i whole) (getD sc i (pos 0)) (drop (suc i) sc) (getD whole i (pos 0)) i (length-take-le i whole (omega arith))
-        ∙ sym (append-snoc (take i whole) (getD whole i (pos 0)) (drop (suc i) sc))
-        ∙ ap (λ (l : List ℤ). l ++ drop (suc i) sc) (sym (take-suc whole i (pos 0) (omega arith)))
-        ∙ ap (λ (k : ℕ). take k whole ++ drop k sc) (sym (add-one i))
+        rw (drop-cons sc i (pos 0) h, add-one i, take-suc whole i (pos 0) (omega arith))
+        (set-at (take i whole) (getD sc i (pos 0)) (drop (suc i) sc) (getD whole i (pos 0)) i (length-take-le i whole (omega arith))
+        ∙ sym (append-snoc (take i whole) (getD whole i (pos 0)) (drop (suc i) sc)))
 
-    pub add-more : (z′ : List ℤ) (norm′ : ℕ) (inner′ : ℤ) → natAbs (getD whole i (pos 0)) ≤ 3263 → natAbs (getD sc i (pos 0)) ≤ 448
+    pub add-more : {z′ : List ℤ} {norm′ : ℕ} {inner′ : ℤ} → natAbs (getD whole i (pos 0)) ≤ 3263 → natAbs (getD sc i (pos 0)) ≤ 448
         → z′ ≡ set z i (getD whole i (pos 0)) → norm′ ≡ norm + natAbs (getD whole i (pos 0)) * natAbs (getD whole i (pos 0)) → inner′ ≡ inner +ℤ (getD whole i (pos 0) *ℤ getD sc i (pos 0))
         → Added whole sc z′ norm′ inner′ (i + 1)
-    add-more z′ norm′ inner′ hw hs ez en ei =
+    unfolding squareSum innerProduct
+    add-more hw hs ez en ei =
         let v = getD whole i (pos 0) in
         let c = getD sc i (pos 0) in
-        let next : drop (suc i) whole ≡ drop (i + 1) whole = ap (λ (k : ℕ). drop k whole) (sym (add-one i)) in
-        let rest = innerProduct (drop (i + 1) whole) (drop (i + 1) sc) in
+        let next = drop-cons whole i (pos 0) (omega arith) in
+        let next′ = drop-cons sc i (pos 0) h in
         record {
           turns = omega arith;
-          size = ap length ez ∙ length-set z i v ∙ s .size;
-          mixed = ez ∙ ap (λ (l : List ℤ). set l i v) (s .mixed) ∙ mixed-more;
-          norm-is = omega (arith, en, s .norm-is, squares-from whole i (omega arith), ap squareSum next);
-          inner-is = ap (λ (x : ℤ). x +ℤ rest) ei ∙ +ℤ-assoc inner (v *ℤ c) rest
-              ∙ ap (λ (x : ℤ). inner +ℤ x) (ap (λ (k : ℕ). (v *ℤ c) +ℤ innerProduct (drop k whole) (drop k sc)) (add-one i) ∙ sym (inner-from whole sc i (omega arith) h))
-              ∙ s .inner-is;
-          inner-small = omega (arith, ap natAbs ei, abs-add inner (v *ℤ c), abs-mul v c, mul-le-mul hw hs, s .inner-small);
+          size = rw (ez, length-set) (s .size);
+          mixed = rw (ez, s .mixed) mixed-more;
+          norm-is = rw (en, add-one i) (omega (arith, rw next at (s .norm-is)));
+          inner-is = rw (ei, add-one i) (+ℤ-assoc inner (v *ℤ c) (innerProduct (drop (suc i) whole) (drop (suc i) sc)) ∙ (rw (next, next′) at (s .inner-is)));
+          inner-small = rw ei (omega (arith, abs-add inner (v *ℤ c), abs-mul v c, mul-le-mul hw hs, s .inner-small));
         }
 
-  pub add-end : (z : List ℤ) (norm : ℕ) (inner : ℤ) (i : ℕ) → Added whole sc z norm inner i → length sc ≤ i → ((norm ≡ squareSum whole) × (inner ≡ innerProduct whole sc)) × (z ≡ whole)
-  add-end z norm inner i s h =
+  pub add-end : length sc ≤ i → ((norm ≡ squareSum whole) × (inner ≡ innerProduct whole sc)) × (z ≡ whole)
+  unfolding squareSum innerProduct
+  add-end h =
       let all : i ≡ length whole = omega (arith, s .turns) in
-      let none : drop i whole ≡ [] = ap (λ (k : ℕ). drop k whole) all ∙ drop-length whole in
-      let none′ : drop i sc ≡ [] = ap (λ (k : ℕ). drop k sc) (all ∙ lengths) ∙ drop-length sc in (
-        (
-          omega (arith, s .norm-is, ap squareSum none, squares-none),
-          sym (+ℤ-idr inner) ∙ ap (λ (x : ℤ). inner +ℤ x) (sym (ap₂ innerProduct none none′ ∙ inner-none [])) ∙ s .inner-is,
-        ),
-        s .mixed ∙ ap₂ (λ (a b : List ℤ). a ++ b) (take-all i whole (omega arith)) none′ ∙ append-nil whole,
-      )
+      let none : drop i whole ≡ [] = rw all (drop-length whole) in
+      let none′ : drop i sc ≡ [] = rw (all ∙ lengths) (drop-length sc) in
+      ((omega (arith, rw none at (s .norm-is)), sym (+ℤ-idr inner) ∙ (rw none at (s .inner-is))), s .mixed ∙ rw (take-all i whole (omega arith), none′) (append-nil whole))
 
 pub norm-bound : (g : Bool) (y sc : List ℤ) → length y ≡ length sc → allWithin 2815 y ≡ true → allWithin 448 sc ≡ true → squareSum (responseOf g y sc) ≤ 10647169 * length sc
 norm-bound g y sc l hy hs = omega (arith, squares-within 3263 (responseOf g y sc) (response-within g y sc hy hs), length-response g y sc l)

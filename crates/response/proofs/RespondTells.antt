@@ -10,7 +10,7 @@ use Rattle.read_list.specs.Entries.{entry, placesUp, placesDown}
 use Rattle.read_list.proofs.Parts.{parts-of-one-length, parts-by-kind}
 use Rattle.challenge.specs.Challenge.{positionsBelow}
 use Rattle.challenge.specs.Product.{productEntries}
-use Rattle.challenge.proofs.ProductLaws.{length-productEntries}
+use Rattle.challenge.proofs.ProductSizes.{length-productEntries}
 use Rattle.challenge.proofs.ProductTells.{product-entries-from-8, product-tells}
 use Rattle.acceptance.specs.Acceptance.{acceptanceEntries}
 use Rattle.response.specs.Response.{respondEntries}

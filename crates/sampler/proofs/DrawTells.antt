@@ -2,18 +2,38 @@
 use mathlib.Core.Path.{_≡_, refl, sym, ap, ap₂, _∙_}
 use mathlib.Core.Bool.{Bool}
 use mathlib.Core.List.{List, [], _∷_, _++_, append-assoc, head-eq-of-cons-eq, tail-eq-of-cons-eq}
-use Prim.Native.Nat.{ℕ, suc, _+_, _*_, _^_, _≤_}
+use Prim.Native.Nat.{ℕ, zero, suc, _+_, _*_, _^_, _≤_}
 use native.Mathlib.Omega.{arith}
-use lib.ListN.{length, getD}
+use lib.ListN.{length, getD, length-append}
 use Rattle.arithmetic.specs.Words.{bit}
 use Rattle.arithmetic.proofs.Bits.{bit-injective}
 use Rattle.read_list.specs.Entries.{placesUp, placesDown}
 use Rattle.read_list.proofs.Parts.{parts-of-one-length}
-use Rattle.attempt.specs.Attempt.{attemptEntries}
-use Rattle.sampler.specs.Draw.{entriesFrom, drawEntries}
-use Rattle.sampler.proofs.DrawLaws.{length-attempt, length-entries}
+use Rattle.attempt.specs.Attempt.{bitAt, attemptEntries}
+use Rattle.attempt.proofs.AttemptLaws.{length-attempt}
+use Rattle.sampler.specs.Draw.{stillWanted, bitsFrom, drawBits, entriesFrom, drawEntries, DrawEntriesAtMost}
 
 -- ** How many they are
+
+pub length-entries : (t before : ℕ) (bits : List Bool) → length (entriesFrom t before bits) ≡ 46 * length bits + 1
+unfolding entriesFrom
+length-entries t before [] = omega arith
+length-entries t before (b ∷ bits) =
+    let e = length-append (attemptEntries t before) (entriesFrom (suc t) (before + bit b) bits) in
+    omega (arith, e, length-attempt t before, length-entries (suc t) (before + bit b) bits)
+
+-- no more attempts than are allowed
+bits-at-most : (f : ℕ → Bool) (t left wanted : ℕ) → length (bitsFrom f t left wanted) ≤ left
+unfolding bitsFrom
+bits-at-most f t zero wanted = omega arith
+bits-at-most f t (suc left) zero = omega arith
+bits-at-most f t (suc left) (suc wanted) = omega (arith, bits-at-most f (suc t) left (stillWanted (f t) wanted))
+
+pub draw-entries-at-most : DrawEntriesAtMost
+unfolding drawEntries drawBits
+draw-entries-at-most e cdt words n limit want =
+    let bits = bitsFrom (bitAt e cdt words) 0 limit want in
+    omega (arith, bits-at-most (bitAt e cdt words) 0 limit want, length-entries 0 0 bits)
 
 pub length-drawEntries : (n : ℕ) (bits : List Bool) → length (drawEntries n bits) ≡ 46 * length bits + 2
 unfolding drawEntries

@@ -1,4 +1,4 @@
-pub mod DrawLaws
 pub mod DrawTells
+pub mod DrawLaws
 pub mod Agreement
 pub mod DrawStops

@@ -1,27 +1,25 @@
 -- What a call leaves, by whether it is refused. Assumes nothing.
-use mathlib.Core.Path.{_≡_, refl, sym, ap, _∙_}
+use mathlib.Core.Path.{_≡_, refl, sym, _∙_}
 use mathlib.Core.List.{[]}
-use mathlib.Core.Logic.{_⊎_, inl, inr, ⊎-elim}
 use Prim.Native.Nat.{ℕ, zero, suc, _+_, _*_, _≤_}
 use native.Mathlib.Nat.{le-trans}
 use native.Mathlib.Omega.{arith}
 use lib.ListN.{length}
 use borrow.Author.Tests.{eq-eqb, ne-eqb}
-use Rattle.read_list.specs.Entries.{filledPart}
 use Rattle.read_list.proofs.Laws.{filled-written}
 use Rattle.sampler.specs.Draw.{drawEntries, sampledBy}
-use Rattle.sampler.proofs.DrawLaws.{draw-entries-at-most}
+use Rattle.sampler.proofs.DrawTells.{draw-entries-at-most}
 use Rattle.response.specs.Response.{respondEntries, respondedBy}
 use Rattle.response.proofs.RespondTells.{length-respondEntries}
 use Rattle.refusals.proofs.Served.{DrawServed, draw-served, RespondServed, respond-served}
 use Rattle.session.specs.declared.Session.{Session}
-use Rattle.session.specs.Calls.{Draw, DrawLeft, refusalOfDraw, bitsOfDraw, drawRefused, drawServed, drawLeft, Respond, RespondLeft, refusalOfRespond, bitOfRespond, zOfRespond, respondRefused, respondServed, respondLeft}
+use Rattle.session.specs.Calls.{Draw, refusalOfDraw, bitsOfDraw, drawRefused, drawServed, drawLeft, Respond, refusalOfRespond, bitOfRespond, zOfRespond, respondRefused, respondServed, respondLeft}
 use Rattle.session.specs.Histories.{Call, draw, respond, leftBy, refusalIn, entriesIn, eventOf, renderEvent}
 
--- a refusal is 0, where a call is served, or it is not
-pub zero-or-not : (refusal : ℕ) → (refusal ≡ 0) ⊎ (refusal ≡ 0 → ⊥)
-zero-or-not zero = inl refl
-zero-or-not (suc k) = inr (λ e. omega arith)
+-- a call is served, where its refusal is 0, or refused
+pub by-refusal : {P : Type 0} (refusal : ℕ) → (refusal ≡ 0 → P) → ((refusal ≡ 0 → ⊥) → P) → P
+by-refusal zero served refused = served refl
+by-refusal (suc k) served refused = refused (λ e. omega arith)
 
 -- ** A draw
 
@@ -36,11 +34,7 @@ module _ (s : Session) (d : Draw) where
 
   pub draw-refusal : refusalIn (leftBy s (draw d)) ≡ refusalOfDraw s d
   unfolding leftBy drawServed drawRefused
-  draw-refusal =
-      ⊎-elim
-      (λ h. ap (λ (l : DrawLeft). l .drawn .answer .refusal) (served-draw-leaves h) ∙ sym h)
-      (λ h. ap (λ (l : DrawLeft). l .drawn .answer .refusal) (refused-draw-leaves h))
-      (zero-or-not (refusalOfDraw s d))
+  draw-refusal = by-refusal (refusalOfDraw s d) (λ h. rw (served-draw-leaves h) (sym h)) (λ h. rw (refused-draw-leaves h))
 
   -- what is known of a draw that is served
   pub draw-passed : refusalOfDraw s d ≡ 0 → DrawServed (s .degree) (d .limit) (d .cdt) (d .polynomial) (length (d .words)) (length (d .y)) (length (d .list))
@@ -56,13 +50,11 @@ module _ (s : Session) (d : Draw) where
 
   pub served-draw-entries : refusalOfDraw s d ≡ 0 → entriesIn (leftBy s (draw d)) ≡ drawEntries (s .degree) (bitsOfDraw s d)
   unfolding leftBy drawServed sampledBy
-  served-draw-entries h =
-      ap (λ (l : DrawLeft). filledPart (l .list) (l .drawn .answer .entries)) (served-draw-leaves h)
-      ∙ filled-written (d .list) (drawEntries (s .degree) (bitsOfDraw s d)) (draw-entries-fit h)
+  served-draw-entries h = rw (served-draw-leaves h) (filled-written (d .list) (drawEntries (s .degree) (bitsOfDraw s d)) (draw-entries-fit h))
 
   refused-draw-entries : (refusalOfDraw s d ≡ 0 → ⊥) → entriesIn (leftBy s (draw d)) ≡ []
   unfolding leftBy drawRefused
-  refused-draw-entries h = ap (λ (l : DrawLeft). filledPart (l .list) (l .drawn .answer .entries)) (refused-draw-leaves h) ∙ filled-written (d .list) [] (omega arith)
+  refused-draw-entries h = rw (refused-draw-leaves h) (filled-written (d .list) [] (omega arith))
 
 -- ** A respond
 
@@ -77,11 +69,7 @@ module _ (s : Session) (r : Respond) where
 
   pub respond-refusal : refusalIn (leftBy s (respond r)) ≡ refusalOfRespond s r
   unfolding leftBy respondServed respondRefused
-  respond-refusal =
-      ⊎-elim
-      (λ h. ap (λ (l : RespondLeft). l .responded .answer .refusal) (served-respond-leaves h) ∙ sym h)
-      (λ h. ap (λ (l : RespondLeft). l .responded .answer .refusal) (refused-respond-leaves h))
-      (zero-or-not (refusalOfRespond s r))
+  respond-refusal = by-refusal (refusalOfRespond s r) (λ h. rw (served-respond-leaves h) (sym h)) (λ h. rw (refused-respond-leaves h))
 
   -- what is known of a respond that is served
   pub respond-passed : refusalOfRespond s r ≡ 0
@@ -94,13 +82,11 @@ module _ (s : Session) (r : Respond) where
 
   pub served-respond-entries : refusalOfRespond s r ≡ 0 → entriesIn (leftBy s (respond r)) ≡ respondEntries (s .degree) (bitOfRespond s r) (r .challenge)
   unfolding leftBy respondServed respondedBy
-  served-respond-entries h =
-      ap (λ (l : RespondLeft). filledPart (l .list) (l .responded .answer .entries)) (served-respond-leaves h)
-      ∙ filled-written (r .list) (respondEntries (s .degree) (bitOfRespond s r) (r .challenge)) (respond-entries-fit h)
+  served-respond-entries h = rw (served-respond-leaves h) (filled-written (r .list) (respondEntries (s .degree) (bitOfRespond s r) (r .challenge)) (respond-entries-fit h))
 
   refused-respond-entries : (refusalOfRespond s r ≡ 0 → ⊥) → entriesIn (leftBy s (respond r)) ≡ []
   unfolding leftBy respondRefused
-  refused-respond-entries h = ap (λ (l : RespondLeft). filledPart (l .list) (l .responded .answer .entries)) (refused-respond-leaves h) ∙ filled-written (r .list) [] (omega arith)
+  refused-respond-entries h = rw (refused-respond-leaves h) (filled-written (r .list) [] (omega arith))
 
 -- ** Any call
 

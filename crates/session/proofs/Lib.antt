@@ -1,4 +1,3 @@
-pub mod Deviation
 pub mod Calls
 pub mod CallLaws
 pub mod Rendering

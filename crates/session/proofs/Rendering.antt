@@ -3,7 +3,7 @@
 use mathlib.Core.Path.{_≡_, refl, sym, ap, ap₂, _∙_}
 use mathlib.Core.Bool.{true}
 use mathlib.Core.List.{List, [], _∷_, _++_, append-assoc, head-eq-of-cons-eq}
-use mathlib.Core.Logic.{_↔_, ⊎-elim}
+use mathlib.Core.Logic.{_↔_}
 use Prim.Native.Nat.{ℕ, _*_, _≤_}
 use native.Mathlib.Omega.{arith}
 use lib.ListN.{length}
@@ -18,7 +18,7 @@ use Rattle.response.proofs.RespondTells.{respond-tells}
 use Rattle.session.specs.declared.Session.{Session}
 use Rattle.session.specs.Calls.{bitsOfDraw}
 use Rattle.session.specs.Histories.{Call, draw, respond, leftBy, refusalIn, nextIn, entriesIn, readList, Event, drew, answered, eventOf, history, renderEvent, render}
-use Rattle.session.proofs.Calls.{zero-or-not, draw-refusal, draw-passed, draw-entries-few, respond-refusal, respond-passed, served-entries, refused-entries}
+use Rattle.session.proofs.Calls.{by-refusal, draw-refusal, draw-passed, draw-entries-few, respond-refusal, respond-passed, served-entries, refused-entries}
 
 -- ** Events that occur
 
@@ -38,16 +38,15 @@ event-occurs s (draw d) h =
     (passed .degree, omega (arith, draw-entries-few s d, length-drawEntries (s .degree) (bitsOfDraw s d), passed .limit-high))
 event-occurs s (respond r) h =
     let passed = respond-passed s r (sym (respond-refusal s r) ∙ h) in
-    (passed .degree, passed .below)
+    (passed .degree, passed .positions .below)
 
 pub history-occurs : (s : Session) (calls : List Call) → AllOccur (history s calls)
 unfolding history
 history-occurs s [] = tt
 history-occurs s (c ∷ calls) =
-    ⊎-elim
+    by-refusal (refusalIn (leftBy s c))
     (λ h. rw (eq-eqb (refusalIn (leftBy s c)) 0 h) (event-occurs s c h, history-occurs (nextIn (leftBy s c)) calls))
     (λ h. rw (ne-eqb (refusalIn (leftBy s c)) 0 h) (history-occurs (nextIn (leftBy s c)) calls))
-    (zero-or-not (refusalIn (leftBy s c)))
 
 -- ** Read lists are rendered histories
 
@@ -55,10 +54,9 @@ pub read-list-is-rendered : (s : Session) (calls : List Call) → readList s cal
 unfolding readList history render
 read-list-is-rendered s [] = refl
 read-list-is-rendered s (c ∷ calls) =
-    ⊎-elim
+    by-refusal (refusalIn (leftBy s c))
     (λ h. rw (eq-eqb (refusalIn (leftBy s c)) 0 h) (ap₂ _++_ (served-entries s c h) (read-list-is-rendered (nextIn (leftBy s c)) calls)))
     (λ h. rw (ne-eqb (refusalIn (leftBy s c)) 0 h, refused-entries s c h) (read-list-is-rendered (nextIn (leftBy s c)) calls))
-    (zero-or-not (refusalIn (leftBy s c)))
 
 -- ** What a rendering tells
 
@@ -127,7 +125,6 @@ pub history-append : (s : Session) (calls later : List Call) → history s (call
 unfolding history sessionAfter
 history-append s [] later = refl
 history-append s (c ∷ calls) later =
-    ⊎-elim
+    by-refusal (refusalIn (leftBy s c))
     (λ h. rw (eq-eqb (refusalIn (leftBy s c)) 0 h) (ap (λ (events : List Event). eventOf s c ∷ events) (history-append (nextIn (leftBy s c)) calls later)))
     (λ h. rw (ne-eqb (refusalIn (leftBy s c)) 0 h) (history-append (nextIn (leftBy s c)) calls later))
-    (zero-or-not (refusalIn (leftBy s c)))

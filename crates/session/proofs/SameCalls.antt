@@ -38,11 +38,11 @@ module _ (s : Session) (d d′ : Draw) (served : refusalOfDraw s d ≡ 0) (serve
 
   bits-same : bitsOfDraw s d ≡ bitsOfDraw s d′
   unfolding bitsOfDraw
-  bits-same = same-bits _ (lent (draw d)) (lent (draw d′)) (s .degree) (d .limit) (2 * s .degree) limit-small same ∙ rw (draw-tables, limits)
+  bits-same = same-bits _ (s .degree) (d .limit) (2 * s .degree) limit-small same ∙ rw (draw-tables, limits)
 
   samples-same : drawY (d .cdt) (d .words) (2 * s .degree) (bitsOfDraw s d) ≡ drawY (d′ .cdt) (d′ .words) (2 * s .degree) (bitsOfDraw s d′)
   unfolding bitsOfDraw
-  samples-same = same-y _ (lent (draw d)) (lent (draw d′)) (s .degree) (d .limit) (2 * s .degree) limit-small same ∙ rw (draw-tables, limits)
+  samples-same = same-y _ (s .degree) (d .limit) (2 * s .degree) limit-small same ∙ rw (draw-tables, limits)
 
   drawn-same : drawLeft s d .drawn ≡ drawLeft s d′ .drawn
   unfolding drawServed sampledBy
@@ -74,12 +74,12 @@ module _ (s : Session) (r r′ : Respond) (served : refusalOfRespond s r ≡ 0) 
   bit-same : bitOfRespond s r ≡ bitOfRespond s r′
   unfolding bitOfRespond
   bit-same =
-      same-bit (lent (respond r)) (lent (respond r′)) (s .degree) (bitOfRespond s r) (r .challenge) degree-small same _ (r .y)
+      same-bit (s .degree) (bitOfRespond s r) (r .challenge) degree-small same _ (r .y)
       ∙ rw (respond-tables, challenges, ys)
 
   z-same : zOfRespond s r ≡ zOfRespond s r′
   unfolding zOfRespond
-  z-same = same-z (lent (respond r)) (lent (respond r′)) (s .degree) (bitOfRespond s r) (r .challenge) degree-small same (r .y) ∙ rw (challenges, ys)
+  z-same = same-z (s .degree) (bitOfRespond s r) (r .challenge) degree-small same (r .y) ∙ rw (challenges, ys)
 
   same-responds : SameCall s (respond r) (respond r′)
   unfolding leftBy respondServed respondedBy

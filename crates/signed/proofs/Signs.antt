@@ -5,7 +5,7 @@ use Prim.Native.Nat.{ℕ, zero, suc, _+_, _-_, _*_, _^_, _≤_, _<_}
 use native.Mathlib.Nat.{lt-of-le-of-lt, le-of-suc-le-suc, not-suc-le-zero}
 use native.Mathlib.Omega.{arith}
 use lib.Dec.{lit<, eqb, ltb}
-use lib.IntN.{ℤ, pos, negsuc, negℤ, _+ℤ_, _-ℤ_, _*ℤ_, natAbs, one, *ℤ-one, *ℤ-negsuc}
+use lib.IntN.{ℤ, pos, negsuc, negℤ, _+ℤ_, _-ℤ_, _*ℤ_, natAbs, one, +ℤ-idl, *ℤ-one, *ℤ-negsuc}
 use lib.Signed.{mag, ltZ}
 use mir.Syntax.{Width, w32}
 use mir.Val.{SFits, toZ, ofZ, hbits}
@@ -51,6 +51,13 @@ fits-of-abs {w} {z} h = record { sfits = lt-of-le-of-lt (mag-le z) h }
 -- a value that fits is read from its bits as it is
 pub read-back : {w : Width} {z : ℤ} → SFits w z → toZ w (ofZ w z) ≡ z
 read-back {w} {z} f = toZ-ofZ w z f
+
+-- 0 - z, as the code has -z
+pub zero-minus : (z : ℤ) → pos 0 -ℤ z ≡ negℤ z
+zero-minus z = +ℤ-idl (negℤ z)
+
+pub zero-minus-fits : {w : Width} (z : ℤ) → natAbs z < 2 ^ hbits w → SFits w (pos 0 -ℤ z)
+zero-minus-fits {w} z h = subst (SFits w) (sym (zero-minus z)) (fits-of-abs (rw (abs-neg z) h))
 
 -- a product that fits, as the code has it
 module _ {w : Width} {a b : ℤ} (fa : SFits w a) (fb : SFits w b) (h : natAbs a * natAbs b < 2 ^ hbits w) where

@@ -1,14 +1,13 @@
--- Laws of sums over vectors: their bounds, and one place more. Assumes nothing.
+-- Laws of ranges of vectors, and of sums over them. Assumes nothing.
 use mathlib.Core.Path.{_≡_, refl}
 use mathlib.Core.Bool.{true, and-eq-true-iff}
 use mathlib.Core.List.{List, [], _∷_, _++_}
-use Prim.Native.Nat.{ℕ, zero, suc, _+_, _*_, _≤_, _<_}
+use Prim.Native.Nat.{ℕ, zero, suc, _+_, _*_, _≤_}
 use native.Mathlib.Nat.{mul-le-mul}
 use native.Mathlib.Omega.{arith}
 use lib.Dec.{leb}
-use lib.IntN.{ℤ, pos, natAbs, _+ℤ_, _*ℤ_}
-use lib.ListN.{length, getD, drop}
-use lib.Seq.{drop-cons}
+use lib.IntN.{ℤ, pos, natAbs, _*ℤ_}
+use lib.ListN.{length, getD}
 use borrow.Author.Tests.{leb-true, le-leb}
 use Rattle.signed.specs.Vectors.{allWithin, squareSum, innerProduct}
 use Rattle.signed.proofs.Signs.{abs-add, abs-mul}
@@ -42,10 +41,6 @@ within-append bound (a ∷ as′) bs h g = let parts = within-parts bound a as�
 
 -- ** The sum of squares
 
-pub squares-none : squareSum [] ≡ 0
-unfolding squareSum
-squares-none = refl
-
 pub squares-within : (bound : ℕ) (values : List ℤ) → allWithin bound values ≡ true → squareSum values ≤ bound * bound * length values
 unfolding squareSum
 squares-within bound [] h = omega arith
@@ -58,20 +53,7 @@ unfolding squareSum
 squares-append [] bs = omega arith
 squares-append (a ∷ as′) bs = omega (arith, squares-append as′ bs)
 
--- the values from place i on
-pub squares-from : (values : List ℤ) (i : ℕ) → i < length values → squareSum (drop i values) ≡ natAbs (getD values i (pos 0)) * natAbs (getD values i (pos 0)) + squareSum (drop (suc i) values)
-unfolding squareSum
-squares-from values i h = rw (drop-cons values i (pos 0) h)
-
 -- ** The sum of products
-
-pub inner-from : (a b : List ℤ) (i : ℕ) → i < length a → i < length b → innerProduct (drop i a) (drop i b) ≡ (getD a i (pos 0) *ℤ getD b i (pos 0)) +ℤ innerProduct (drop (suc i) a) (drop (suc i) b)
-unfolding innerProduct
-inner-from a b i h g = rw (drop-cons a i (pos 0) h, drop-cons b i (pos 0) g)
-
-pub inner-none : (b : List ℤ) → innerProduct [] b ≡ pos 0
-unfolding innerProduct
-inner-none b = refl
 
 pub inner-within : (p q : ℕ) (a b : List ℤ) → allWithin p a ≡ true → allWithin q b ≡ true → natAbs (innerProduct a b) ≤ p * q * length b
 unfolding innerProduct

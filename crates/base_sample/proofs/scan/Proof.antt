@@ -1,15 +1,15 @@
--- `base_sample::scan` meets its contract. The loop's invariant: x counts the thresholds before i, and the entries of the others, from the list as it
--- is, give the list. Assumes nothing.
+-- `base_sample::scan` meets its contract. The loop's invariant: x counts the thresholds before i, and their entries are listed. Assumes nothing.
+use borrow.Author.Needs.{needs}
 use mathlib.Core.Path.{_≡_, refl, sym, ap, ap₂, _∙_}
 use mathlib.Core.List.{List}
-use Prim.Native.Nat.{ℕ, _≤_, _<_, _+_, _-_, _*_, _^_}
+use Prim.Native.Nat.{ℕ, suc, _≤_, _+_, _-_, _*_, _^_}
 use native.Mathlib.Omega.{arith}
 use lib.Dec.{ltb}
 use lib.ListN.{length, set, getD, length-set}
 use lib.Seq.{sets}
 use Rattle.arithmetic.specs.Words.{bit}
 use Rattle.read_list.specs.Entries.{entry, placesUp}
-use Rattle.read_list.proofs.Laws.{placesUp-step, placesUp-end}
+use Rattle.read_list.proofs.Laws.{placesUp-more}
 use Rattle.base_sample.specs.BaseSample.{threshold, atOrBelow, baseSample}
 use Rattle.arithmetic.proofs.Bits.{bit-le}
 use Rattle.base_sample.proofs.Thresholds.{word-small, one-more, at-or-below-next}
@@ -21,22 +21,14 @@ record Turn (cdt : List ℕ) (d : ℕ) (list₀ : List ℕ) (at : ℕ) (list : L
   small : x ≤ i
   count : x ≡ atOrBelow cdt d i
   same : length list ≡ length list₀
-  entries : sets list (at + 2 * i) (placesUp 3 (2 * i) (20 - 2 * i)) ≡ sets list₀ at (placesUp 3 0 20)
+  entries : list ≡ sets list₀ at (placesUp 3 0 (2 * i))
 
 -- two entries more
-two-more : (l l₁ l₂ : List ℕ) (at i : ℕ) → i < 10 → l₁ ≡ set l (at + 2 * i) (entry 3 (2 * i)) → l₂ ≡ set l₁ (at + 2 * i + 1) (entry 3 (2 * i + 1))
-    → sets l₂ (at + 2 * (i + 1)) (placesUp 3 (2 * (i + 1)) (20 - 2 * (i + 1))) ≡ sets l (at + 2 * i) (placesUp 3 (2 * i) (20 - 2 * i))
-two-more l l₁ l₂ at i h e₁ e₂ =
-    let place : 2 * (i + 1) ≡ 2 * i + 1 + 1 = omega arith in
-    let here : at + 2 * (i + 1) ≡ at + 2 * i + 1 + 1 = omega arith in
-    let left : 20 - 2 * (i + 1) + 1 + 1 ≡ 20 - 2 * i = omega arith in
-    let m = 20 - 2 * (i + 1) in
-    ap₂ (λ (p q : ℕ). sets l₂ p (placesUp 3 q m)) here place
-    ∙ ap (λ (k : List ℕ). sets k (at + 2 * i + 1 + 1) (placesUp 3 (2 * i + 1 + 1) m)) e₂
-    ∙ placesUp-step 3 l₁ (at + 2 * i + 1) (2 * i + 1) m
-    ∙ ap (λ (k : List ℕ). sets k (at + 2 * i + 1) (placesUp 3 (2 * i + 1) (m + 1))) e₁
-    ∙ placesUp-step 3 l (at + 2 * i) (2 * i) (m + 1)
-    ∙ ap (λ (k : ℕ). sets l (at + 2 * i) (placesUp 3 (2 * i) k)) left
+two-more : (l₀ l l₁ l₂ : List ℕ) (at i : ℕ) → l ≡ sets l₀ at (placesUp 3 0 (2 * i)) → l₁ ≡ set l (at + 2 * i) (entry 3 (2 * i)) → l₂ ≡ set l₁ (at + 2 * i + 1) (entry 3 (2 * i + 1))
+    → l₂ ≡ sets l₀ at (placesUp 3 0 (2 * (i + 1)))
+two-more l₀ l l₁ l₂ at i e e₁ e₂ =
+    let next : 2 * (i + 1) ≡ suc (suc (2 * i)) = omega arith in
+    rw next (placesUp-more 3 0 (suc (2 * i)) l₀ at (placesUp-more 3 0 (2 * i) l₀ at e e₁ refl (omega arith)) e₂ (omega arith) (omega arith))
 
 abbrev Inv-loop : tie.InvT-loop
 Inv-loop cdt draw list₀ at x₀ i₀ list x i = Turn cdt (draw .high * 2 ^ 62 + draw .low) list₀ at list x i
@@ -45,10 +37,8 @@ abbrev μ-loop : tie.MeasureT-loop
 μ-loop cdt draw list₀ at x₀ i₀ list x i = 10 - i
 
 loop-holds : tie.Need-loop-holds Inv-loop μ-loop
-unfolding atOrBelow
-loop-holds c =
-    let s = c .before .before .args in
-    record { turns = omega arith; small = omega arith; count = refl; same = refl; entries = ap (λ (n : ℕ). sets (s .list .now) n (placesUp 3 0 20)) (omega arith) }
+unfolding atOrBelow placesUp
+loop-holds c = record { turns = omega arith; small = omega arith; count = refl; same = refl; entries = refl }
 
 mul-place : tie.Need-mul-place Inv-loop μ-loop
 mul-place c = omega arith
@@ -113,11 +103,11 @@ loop-again c =
       small = omega (arith, t .inv .small);
       count = counted (s .cdt .now) d (t .x) (t .i) _ _ _ (t .inv .count) (read .0) (read2 .0) (c .below .ensures);
       same = rw (read2 .1, length-set, read .1, length-set) (t .inv .same);
-      entries = two-more (t .list) _ _ (s .at) (t .i) (a .before .before .loop-test .taken) (read .1) (read2 .1) ∙ t .inv .entries;
+      entries = two-more (s .list .now) (t .list) _ _ (s .at) (t .i) (t .inv .entries) (read .1) (read2 .1);
     }
 
 same-length : tie.Need-same-length Inv-loop μ-loop
-same-length c = c .before .loop .inv .same
+same-length c = search needs
 
 returns : tie.Need-returns Inv-loop μ-loop
 unfolding baseSample
@@ -127,7 +117,7 @@ returns c =
     let all : t .i ≡ 10 = omega (arith, t .inv .turns, c .loop-test .left) in (
       t .inv .count ∙ ap (atOrBelow (s .cdt .now) (s .draw .high * 2 ^ 62 + s .draw .low)) all,
       omega (arith, t .inv .small, t .inv .turns),
-      placesUp-end 3 (t .list) (s .at + 2 * t .i) (2 * t .i) (20 - 2 * t .i) (omega arith) ∙ t .inv .entries,
+      rw all at (t .inv .entries),
     )
 
 pub scan-spec : {M : Type 1} → statement M

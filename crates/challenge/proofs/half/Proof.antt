@@ -10,7 +10,8 @@ use mir.Syntax.{w32}
 use mir.Val.{toZ, ofZ}
 use Rattle.signed.proofs.Signs.{read-back}
 use Rattle.challenge.specs.Product.{outputAt}
-use Rattle.challenge.proofs.ProductLaws.{output-within, half-bound, square-fits, Halved, half-start, half-more, half-end}
+use Rattle.challenge.proofs.ProductSizes.{output-within, half-bound}
+use Rattle.challenge.proofs.ProductLaws.{square-fits, Halved, half-start, half-more, half-end}
 use Rattle.challenge.proofs.half.Statement.{statement}
 use Rattle.challenge.proofs.half.Tie as tie
 
@@ -68,7 +69,7 @@ add-squares c =
           omega (
             arith,
             squared c,
-            square-fits (a .key .now) (a .n) (a .base) (a .challenge .now) (a .z .now) (a .list .now) (a .at) (l .z) (l .list) (l .squares) (l .i) (l .place) (l .inv) (c .before .before .before .before .before .loop-test .taken),
+            square-fits (l .inv) (c .before .before .before .before .before .loop-test .taken),
             half-bound (a .key .now) (a .n) (a .base) (a .challenge .now) (s .pre .0 .small) (s .pre .0 .few),
             s .pre .0 .degree,
           );
@@ -87,19 +88,19 @@ loop-again : tie.Need-loop-again Inv-loop μ-loop
 loop-again c =
     let s = c .before .before .before .before .before .before .before .before .before .args in
     let l = c .before .before .before .before .before .before .loop in
-    half-more (s .key .now) (s .n) (s .base) (s .challenge .now) (s .z .now) (s .list .now) (s .at) (l .z) _ (l .list) _ (l .squares) _ (l .i) (l .place) (l .inv) (c .before .before .before .before .before .loop-test .taken)
+    half-more (l .inv) (c .before .before .before .before .before .loop-test .taken)
     (ap (λ (v : ℤ). set (l .z) (s .base + l .i) v) (output (c .before .before .before)))
     (c .before .before .before .output-at .ensures .1)
     (ap (λ (m : ℕ). l .squares + m) (squared c))
 
 same-length : tie.Need-same-length Inv-loop μ-loop
-same-length c = c .before .loop .inv .z-size
+same-length c = search needs
 
 same-length-2 : tie.Need-same-length-2 Inv-loop μ-loop
-same-length-2 c = c .before .loop .inv .list-size
+same-length-2 c = search needs
 
 returns : tie.Need-returns Inv-loop μ-loop
-returns c = half-end _ _ _ _ _ _ _ _ _ _ _ _ (c .before .loop .inv) (c .loop-test .left)
+returns c = half-end (c .before .loop .inv) (c .loop-test .left)
 
 pub half-spec : {M : Type 1} → statement M
 half-spec =

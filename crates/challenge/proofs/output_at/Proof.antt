@@ -9,7 +9,8 @@ use mir.Syntax.{w32}
 use mir.Val.{toZ}
 use Rattle.signed.proofs.Signs.{read-back}
 use Rattle.challenge.proofs.Positions.{position-below}
-use Rattle.challenge.proofs.ProductLaws.{term-within, Summed, sum-start, sum-more, sum-end}
+use Rattle.challenge.proofs.ProductSizes.{term-within}
+use Rattle.challenge.proofs.ProductLaws.{Summed, sum-start, sum-more, sum-end}
 use Rattle.challenge.proofs.output_at.Statement.{statement}
 use Rattle.challenge.proofs.output_at.Tie as tie
 
@@ -62,15 +63,14 @@ loop-again c =
     let t = c .before .before .before .term-at in
     let l = c .before .before .before .before .before .before .before .loop in
     let s = c .before .before .before .before .before .before .before .before .before .before in
-    sum-more (s .args .key .now) (s .args .n) (s .args .base) (s .args .i) (s .args .challenge .now) (s .args .list .now) (s .args .at) (l .list) _ (toZ w32 (l .sum)) _ (l .k)
-    (l .inv) (c .before .before .before .before .before .before .loop-test .taken) (s .pre .0 .small) (t .ensures .1)
+    sum-more (l .inv) (c .before .before .before .before .before .before .loop-test .taken) (s .pre .0 .small) (t .ensures .1)
     (read-back (record { sfits = c .plus .ok }) ∙ c .plus .ensures ∙ ap (λ (r : ℤ). toZ w32 (l .sum) +ℤ r) (read-back (record { sfits = t .ok }) ∙ t .ensures .0))
 
 same-length : tie.Need-same-length Inv-loop μ-loop
-same-length c = c .before .loop .inv .size
+same-length c = search needs
 
 returns : tie.Need-returns Inv-loop μ-loop
-returns c = sum-end _ _ _ _ _ _ _ _ _ _ (c .before .loop .inv) (c .loop-test .left)
+returns c = sum-end (c .before .loop .inv) (c .loop-test .left)
 
 pub output-at-spec : {M : Type 1} → statement M
 output-at-spec =

@@ -1,4 +1,5 @@
 -- `draw_points::sum_of` ends, and its sums fit: each is below 2147483647. Assumes nothing.
+use borrow.Author.Needs.{needs}
 use native.Mathlib.Omega.{arith}
 use Prim.Native.Nat.{_≤_, _<_, _-_}
 use lib.ListN.{length}
@@ -12,7 +13,7 @@ abbrev μ-loop : tie.MeasureT-loop
 μ-loop list sum₀ i₀ sum i = length list - i
 
 loop-holds : tie.Need-loop-holds Inv-loop μ-loop
-loop-holds c = (omega arith, omega arith)
+loop-holds c = search needs
 
 mul-sum : tie.Need-mul-sum Inv-loop μ-loop
 mul-sum c = omega arith
@@ -36,7 +37,7 @@ loop-less : tie.Need-loop-less Inv-loop μ-loop
 loop-less c = omega arith
 
 loop-again : tie.Need-loop-again Inv-loop μ-loop
-loop-again c = (omega arith, omega arith)
+loop-again c = search needs
 
 returns : tie.Need-returns Inv-loop μ-loop
 returns c = tt

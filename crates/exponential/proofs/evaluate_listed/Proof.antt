@@ -1,8 +1,9 @@
 -- `exponential::evaluate_listed` meets its contract. The loop's invariant: the evaluation is under way, and the entries left, from the list as
 -- it is, give the list. Assumes nothing.
+use borrow.Author.Needs.{needs}
 use mathlib.Core.Path.{_≡_, refl, _∙_}
 use mathlib.Core.List.{List}
-use Prim.Native.Nat.{ℕ, _≤_, _<_, _+_, _-_}
+use Prim.Native.Nat.{ℕ, _≤_, _<_, _+_}
 use native.Mathlib.Numerals.{add-one}
 use native.Mathlib.Omega.{arith}
 use lib.ListN.{length, length-set}
@@ -47,7 +48,7 @@ next-value-requires c κs =
     let s = c .before .before .before .before .before .before .before .before in
     let t = c .before .before .before .before .before .loop in
     let more = c .before .before .before .before .loop-test .taken in
-    let asks = evaluating-asks (s .args .table .now) (s .pre .0) (s .args .v) (t .a) (t .j) more (t .inv .evaluating) in
+    let asks = evaluating-asks (s .pre .0) more (t .inv .evaluating) in
     rw (c .before .before .listed-word .ensures .0) (asks .0, asks .1, s .pre .1)
 
 loop-less : tie.Need-loop-less Inv-loop μ-loop
@@ -62,20 +63,19 @@ loop-again c =
     let e = c .next-value .ensures in
     record {
       here = omega arith;
-      evaluating = rw (e, read .0) (evaluating-goes-on (s .args .table .now) (s .pre .0) (s .args .v) (t .a) (t .j) more (t .inv .evaluating));
+      evaluating = rw (e, read .0) (evaluating-goes-on (s .pre .0) more (t .inv .evaluating));
       room = rw (read .1, length-set) (t .inv .room);
       same = rw (read .1, length-set) (t .inv .same);
       entries = rw (read .1, add-one) (placesDown-step 4 (t .list) (t .place) (t .j) more ∙ t .inv .entries);
     }
 
 same-length : tie.Need-same-length Inv-loop μ-loop
-same-length c = c .before .loop .inv .same
+same-length c = search needs
 
 returns : tie.Need-returns Inv-loop μ-loop
 returns c =
-    let s = c .before .before .before .before in
     let t = c .before .loop in
-    let value = evaluating-ends (s .args .table .now) (s .args .v) (t .a) (t .j) (c .loop-test .left) (t .inv .evaluating) in
+    let value = evaluating-ends (c .loop-test .left) (t .inv .evaluating) in
     (value .0, value .1, placesDown-end 4 (t .list) (t .place) (t .j) (c .loop-test .left) ∙ t .inv .entries)
 
 pub evaluate-listed-spec : {M : Type 1} → statement M

@@ -1,4 +1,5 @@
 -- `exponential::evaluate_unlisted` meets its contract. The loop's invariant: the evaluation is under way. Assumes nothing.
+use borrow.Author.Needs.{needs}
 use native.Mathlib.Omega.{arith}
 use Rattle.exponential.proofs.Steps.{table-length, Evaluating, evaluating-starts, evaluating-asks, evaluating-goes-on, evaluating-ends}
 use Rattle.exponential.proofs.evaluate_unlisted.Statement.{statement}
@@ -17,7 +18,7 @@ sub-j : tie.Need-sub-j Inv-loop μ-loop
 sub-j c = omega arith
 
 mul-next-value : tie.Need-mul-next-value Inv-loop μ-loop
-mul-next-value c = record { fits = omega (arith, c .before .loop .inv .count) }
+mul-next-value c = search needs
 
 shared-slice-read-next-value : tie.Need-shared-slice-read-next-value Inv-loop μ-loop
 shared-slice-read-next-value c =
@@ -28,7 +29,7 @@ next-value-requires : tie.Need-next-value-requires Inv-loop μ-loop
 next-value-requires c κs =
     let s = c .before .before .before .before in
     let t = c .before .before .loop in
-    let asks = evaluating-asks (s .args .table .now) (s .pre .0) (s .args .v) (t .a) (t .j) (c .before .loop-test .taken) (t .inv) in
+    let asks = evaluating-asks (s .pre .0) (c .before .loop-test .taken) (t .inv) in
     (omega (arith, asks .0), asks .1, s .pre .1)
 
 loop-less : tie.Need-loop-less Inv-loop μ-loop
@@ -38,13 +39,10 @@ loop-again : tie.Need-loop-again Inv-loop μ-loop
 loop-again c =
     let s = c .before .before .before .before .before in
     let t = c .before .before .before .loop in
-    rw (c .next-value .ensures) (evaluating-goes-on (s .args .table .now) (s .pre .0) (s .args .v) (t .a) (t .j) (c .before .before .loop-test .taken) (t .inv))
+    rw (c .next-value .ensures) (evaluating-goes-on (s .pre .0) (c .before .before .loop-test .taken) (t .inv))
 
 returns : tie.Need-returns Inv-loop μ-loop
-returns c =
-    let s = c .before .before .before .args in
-    let t = c .before .loop in
-    evaluating-ends (s .table .now) (s .v) (t .a) (t .j) (c .loop-test .left) (t .inv)
+returns c = evaluating-ends (c .loop-test .left) (c .before .loop .inv)
 
 pub evaluate-unlisted-spec : {M : Type 1} → statement M
 evaluate-unlisted-spec =

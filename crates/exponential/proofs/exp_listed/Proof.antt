@@ -1,9 +1,6 @@
--- `exponential::exp_listed` meets its contract: v, the evaluation and the six squarings are those of the definition. Assumes nothing.
+-- `exponential::exp_listed` meets its contract. Assumes nothing.
 use borrow.Author.Needs.{needs}
-use mathlib.Core.Path.{ap, _∙_}
-use Prim.Native.Nat.{ℕ}
-use lib.ListN.{getD}
-use Rattle.exponential.specs.Exponential.{scaled, evaluate, squarings, expScaled}
+use Rattle.exponential.proofs.Steps.{exp-in-steps}
 use Rattle.exponential.proofs.exp_listed.Statement.{statement}
 use Rattle.exponential.proofs.exp_listed.Tie as tie
 
@@ -20,14 +17,10 @@ same-length : tie.Need-same-length
 same-length c = search needs
 
 returns : tie.Need-returns
-unfolding expScaled scaled
 returns c =
     let ev = c .before .before .before in
-    let table = ev .before .before .before .before .before .args .table .now in (
-      c .power64 .ensures .0 ∙ ap (λ (x : ℕ). squarings 6 x) (ev .evaluate-listed .ensures .0 ∙ ap (λ (x : ℕ). evaluate table x 20 (getD table 20 0)) (ev .before .before .mul-shift22 .ensures)),
-      c .power64 .ensures .1,
-      ev .evaluate-listed .ensures .2,
-    )
+    let a = ev .before .before .before .before .before .args in
+    (exp-in-steps (a .table .now) (a .reciprocal) (a .n) (ev .before .before .mul-shift22 .ensures) (ev .evaluate-listed .ensures .0) (c .power64 .ensures .0), c .power64 .ensures .1, ev .evaluate-listed .ensures .2)
 
 pub exp-listed-spec : {M : Type 1} → statement M
 exp-listed-spec =

@@ -1,12 +1,11 @@
 -- `exponential::exp_or_refusal` meets its contract: the constant table is the polynomial table, and the constant is R. Assumes nothing.
 use borrow.Author.Needs.{needs}
 use borrow.Author.Tests.{lt-leb, le-leb}
-use mathlib.Core.Path.{_≡_, refl, ap, _∙_}
-use Prim.Native.Nat.{ℕ, _+_, _*_, _/_, _^_, _≤_, _<_}
-use native.Mathlib.Omega.{arith}
-use lib.ListN.{getD}
-use Rattle.exponential.specs.Exponential.{factorial, entriesFrom, polynomial, scaled, evaluate, squarings, expScaled, expWith, exp, limit, expOrRefusal}
-use Rattle.exponential.proofs.Table.{reciprocal-215}
+use mathlib.Core.Path.{_≡_, _∙_}
+use Prim.Native.Nat.{ℕ, _+_, _^_, _≤_, _<_}
+use Rattle.exponential.specs.Exponential.{factorial, entriesFrom, polynomial, expScaled, exp, limit, expOrRefusal}
+use Rattle.exponential.proofs.Table.{by-215}
+use Rattle.exponential.proofs.Steps.{exp-in-steps}
 use Rattle.exponential.proofs.exp_or_refusal.Statement.{statement}
 use Rattle.exponential.proofs.exp_or_refusal.Tie as tie
 
@@ -15,13 +14,8 @@ unfolding expOrRefusal
 refused n h = simp (lt-leb n limit h)
 
 at-215 : (n : ℕ) → n ≤ limit → expScaled polynomial 3269134179596076729 n ≡ expOrRefusal n
-unfolding expOrRefusal exp expWith
-at-215 n h = simp (le-leb n limit h, reciprocal-215)
-
--- v, the evaluation and the six squarings are those of the definition
-served : (n v a e : ℕ) → n ≤ limit → v ≡ n * 3269134179596076729 / 2 ^ 22 → a ≡ evaluate polynomial v 20 (getD polynomial 20 0) → e ≡ squarings 6 a → e ≡ expOrRefusal n
-unfolding expScaled scaled
-served n v a e h ev ea ee = ee ∙ ap (squarings 6) (ea ∙ ap (λ (x : ℕ). evaluate polynomial x 20 (getD polynomial 20 0)) ev) ∙ at-215 n h
+unfolding expOrRefusal exp
+at-215 n h = rw (by-215 polynomial, le-leb n limit h)
 
 returns : tie.Need-returns
 returns c = refused (c .before .args .n) (c .if1 .taken)
@@ -34,7 +28,7 @@ slice-aggregate-evaluate-unlisted c = search needs
 
 evaluate-unlisted-requires : tie.Need-evaluate-unlisted-requires
 unfolding polynomial entriesFrom factorial
-evaluate-unlisted-requires c κs = (refl, omega (arith, c .before .mul-shift22 .ensures, c .before .before .if1 .left))
+evaluate-unlisted-requires c κs = search needs
 
 power64-requires : tie.Need-power64-requires
 power64-requires c κs = search needs
@@ -43,8 +37,8 @@ returns-2 : tie.Need-returns-2
 unfolding polynomial entriesFrom factorial
 returns-2 c =
     let v = c .before .before .before in
-    let test = v .before in
-    served (test .before .args .n) _ _ _ (test .if1 .left) (v .mul-shift22 .ensures) (c .before .evaluate-unlisted .ensures .0) (c .power64 .ensures .0)
+    let n = v .before .before .args .n in
+    exp-in-steps polynomial 3269134179596076729 n (v .mul-shift22 .ensures) (c .before .evaluate-unlisted .ensures .0) (c .power64 .ensures .0) ∙ at-215 n (v .before .if1 .left)
 
 pub exp-or-refusal-spec : {M : Type 1} → statement M
 exp-or-refusal-spec =

@@ -10,7 +10,7 @@ use lib.Dec.{leb, eqb}
 use lib.ListN.{length}
 use Rattle.signed.specs.Vectors.{allWithin}
 use Rattle.checks.specs.Checks.{isDegree, unless}
-use Rattle.checks.proofs.Laws.{four-fail, degree-range, refused, not-refused}
+use Rattle.checks.proofs.Laws.{four-fail, holds, fails, degree-range, refused, not-refused}
 use Rattle.exponential.specs.Exponential.{isPolynomial}
 use Rattle.challenge.specs.Challenge.{isChallenge}
 use Rattle.challenge.proofs.Positions.{challenge-of}
@@ -30,11 +30,11 @@ abbrev start : tie.Else1 → tie.Start
 start c = c .before .before .before .before
 
 degree : (c : tie.Else1) → isDegree (start c .args .n) ≡ true
-degree c = sym (c .before .is-degree .ensures) ∙ not-false _ (c .if1 .left)
+degree c = holds (c .before .is-degree .ensures) (c .if1 .left)
 
 returns : tie.Need-returns
 unfolding respondRefusal unless
-returns c = rw (sym (c .before .is-degree .ensures) ∙ not-true _ (c .if1 .taken))
+returns c = rw (fails (c .before .is-degree .ensures) (c .if1 .taken))
 
 -- ** Refusal 2
 
@@ -64,13 +64,13 @@ is-polynomial-requires : tie.Need-is-polynomial-requires
 is-polynomial-requires c κs = search needs
 
 polynomial : (c : tie.Else3) → isPolynomial (start (c .before .before .before) .args .polynomial .now) ≡ true
-polynomial c = sym (c .before .is-polynomial .ensures) ∙ not-false _ (c .if3 .left)
+polynomial c = holds (c .before .is-polynomial .ensures) (c .if3 .left)
 
 returns-3 : tie.Need-returns-3
 unfolding respondRefusal unless
 returns-3 c =
     let two = c .before .before in
-    rw (degree (two .before), sizes two, sym (c .before .is-polynomial .ensures) ∙ not-true _ (c .if3 .taken))
+    rw (degree (two .before), sizes two, fails (c .before .is-polynomial .ensures) (c .if3 .taken))
 
 is-challenge-requires : tie.Need-is-challenge-requires
 is-challenge-requires c κs = search needs
@@ -79,14 +79,14 @@ abbrev start-4 : tie.Else4 → tie.Start
 start-4 c = start (c .before .before .before .before .before)
 
 challenge : (c : tie.Else4) → let a = start-4 c .args in isChallenge (a .n) (a .challenge .now) ≡ true
-challenge c = sym (c .before .is-challenge .ensures) ∙ not-false _ (c .if4 .left)
+challenge c = holds (c .before .is-challenge .ensures) (c .if4 .left)
 
 returns-4 : tie.Need-returns-4
 unfolding respondRefusal unless
 returns-4 c =
     let three = c .before .before in
     let two = three .before .before in
-    rw (degree (two .before), sizes two, polynomial three, sym (c .before .is-challenge .ensures) ∙ not-true _ (c .if4 .taken))
+    rw (degree (two .before), sizes two, polynomial three, fails (c .before .is-challenge .ensures) (c .if4 .taken))
 
 -- ** From refusal 7 on: where those before don't apply, the others decide
 
@@ -148,16 +148,16 @@ returns-7 : tie.Need-returns-7
 returns-7 c = sym (from-9-on (c .before .before .before) ∙ refused _ 9 _ (not-true _ (c .if7 .taken)))
 
 from-11-on : (c : tie.Else8) → let s = start-7 (c .before) in refusal s ≡ unless (allWithin 2815 (s .args .y .now)) 11 0
-from-11-on c = from-10-on (c .before) ∙ not-refused _ 10 _ (sym (c .before .before .before .all-within .ensures) ∙ not-false _ (c .if8 .left))
+from-11-on c = from-10-on (c .before) ∙ not-refused _ 10 _ (holds (c .before .before .before .all-within .ensures) (c .if8 .left))
 
 returns-8 : tie.Need-returns-8
-returns-8 c = sym (from-10-on (c .before) ∙ refused _ 10 _ (sym (c .before .before .before .all-within .ensures) ∙ not-true _ (c .if8 .taken)))
+returns-8 c = sym (from-10-on (c .before) ∙ refused _ 10 _ (fails (c .before .before .before .all-within .ensures) (c .if8 .taken)))
 
 returns-10 : tie.Need-returns-10
-returns-10 c = sym (from-11-on (c .before) ∙ not-refused _ 11 _ (sym (c .before .before .before .all-within2 .ensures) ∙ not-false _ (c .if9 .left)))
+returns-10 c = sym (from-11-on (c .before) ∙ not-refused _ 11 _ (holds (c .before .before .before .all-within2 .ensures) (c .if9 .left)))
 
 returns-9 : tie.Need-returns-9
-returns-9 c = sym (from-11-on (c .before) ∙ refused _ 11 _ (sym (c .before .before .before .all-within2 .ensures) ∙ not-true _ (c .if9 .taken)))
+returns-9 c = sym (from-11-on (c .before) ∙ refused _ 11 _ (fails (c .before .before .before .all-within2 .ensures) (c .if9 .taken)))
 
 pub respond-refusal-spec : {M : Type 1} → statement M
 respond-refusal-spec =

@@ -33,10 +33,10 @@ bit0-requires : tie.Need-bit0-requires Inv-loop μ-loop
 bit0-requires c κs = tt
 
 sign-of-requires : tie.Need-sign-of-requires Inv-loop μ-loop
-sign-of-requires c κs = omega (arith, c .bit0 .ensures)
+sign-of-requires c κs = search needs
 
 loop-holds : tie.Need-loop-holds Inv-loop μ-loop
-loop-holds c = add-start (whole (c .before .before)) (c .before .before .args .z .now) (lengths (c .before .before))
+loop-holds c = add-start _ _
 
 mul-sc : tie.Need-mul-sc Inv-loop μ-loop
 mul-sc c = search needs
@@ -52,14 +52,11 @@ inside : (c : tie.In-loop Inv-loop μ-loop) → c .before .loop .i < length (c .
 inside c = omega (arith, c .loop-test .taken, c .before .loop .inv .size)
 
 shared-slice-copy-out-response-at : tie.Need-shared-slice-copy-out-response-at Inv-loop μ-loop
-shared-slice-copy-out-response-at c = omega (arith, inside (c .before), c .before .before .before .before .before .pre .0)
+shared-slice-copy-out-response-at c = search needs
 
 -- the product, y and the sign, as they are read
 product-read : (c : tie.After-sc Inv-loop μ-loop) → toZ w32 (ofZ w32 (getD (c .before .before .loop .z) (c .before .before .loop .i) (pos 0))) ≡ getD (c .before .before .before .before .before .args .z .now) (c .before .before .loop .i) (pos 0)
-product-read c =
-    let s = c .before .before .before .before .before in
-    let l = c .before .before .loop in
-    read-back (record { sfits = c .sc .given }) ∙ product-stands (whole s) (s .args .z .now) (lengths s) (l .z) (l .norm) (toZ w64 (l .inner)) (l .i) (l .inv) (inside (c .before))
+product-read c = read-back (record { sfits = c .sc .given }) ∙ product-stands (lengths (c .before .before .before .before .before)) (c .before .before .loop .inv) (inside (c .before))
 
 y-read : (c : tie.After-response-at-arg Inv-loop μ-loop) → let y = c .before .before .before .before .before .before .args .y .now in toZ w32 (ofZ w32 (getD y (c .before .before .before .loop .i) (pos 0))) ≡ getD y (c .before .before .before .loop .i) (pos 0)
 y-read c = read-back (record { sfits = c .response-at-arg .given })
@@ -109,7 +106,7 @@ add-norm c =
           omega (
             arith,
             squared c,
-            norm-within (whole s) (s .args .z .now) (lengths s) (l .z) (l .norm) (toZ w64 (l .inner)) (l .i) (l .inv) (inside (c .before .before .before .before)),
+            norm-within (lengths s) (l .inv) (inside (c .before .before .before .before)),
             norm-bound (subtracts (s .args .word)) (s .args .y .now) (s .args .z .now) (s .pre .0) (s .pre .2) (s .pre .3),
             s .pre .1,
           );
@@ -136,7 +133,7 @@ loop-again c =
     let l = c .before .before .before .before .before .before .loop in
     let r = c .before .before in
     let v = read-back (record { sfits = r .response-at .ok }) ∙ made r in
-    add-more (whole s) (s .args .z .now) (lengths s) (l .z) (l .norm) (toZ w64 (l .inner)) (l .i) (l .inv) (inside (c .before .before .before .before .before)) _ _ _
+    add-more (lengths s) (l .inv) (inside (c .before .before .before .before .before))
     (within-at 3263 (whole s) (response-within (subtracts (s .args .word)) (s .args .y .now) (s .args .z .now) (s .pre .2) (s .pre .3)) (l .i))
     (within-at 448 (s .args .z .now) (s .pre .3) (l .i))
     (ap (λ (x : ℤ). set (l .z) (l .i) x) v)
@@ -144,10 +141,10 @@ loop-again c =
     (read-back (record { sfits = c .plus-product .ok }) ∙ c .plus-product .ensures ∙ ap₂ (λ (a b : ℤ). toZ w64 (l .inner) +ℤ (a *ℤ b)) v (product-read (c .before .before .before .before)))
 
 same-length : tie.Need-same-length Inv-loop μ-loop
-same-length c = c .before .loop .inv .size
+same-length c = search needs
 
 returns : tie.Need-returns Inv-loop μ-loop
-returns c = let s = c .before .before .before .before in add-end (whole s) (s .args .z .now) (lengths s) _ _ _ _ (c .before .loop .inv) (omega (arith, c .loop-test .left, c .before .loop .inv .size))
+returns c = add-end (lengths (c .before .before .before .before)) (c .before .loop .inv) (omega (arith, c .loop-test .left, c .before .loop .inv .size))
 
 pub add-product-spec : {M : Type 1} → statement M
 add-product-spec =

@@ -1,7 +1,7 @@
 -- `response::measured` meets its contract. Assumes nothing.
 use borrow.Author.Needs.{needs}
-use mathlib.Core.Path.{_≡_, sym, ap, ap₂, _∙_}
-use mathlib.Core.List.{List, _∷_, _++_}
+use mathlib.Core.Path.{_≡_, refl, sym, ap, _∙_}
+use mathlib.Core.List.{List, [], _∷_, _++_}
 use Prim.Native.Nat.{ℕ, _+_, _*_, _≤_}
 use native.Mathlib.Nat.{le-trans, mul-le-mul-left}
 use native.Mathlib.Omega.{arith}
@@ -13,9 +13,9 @@ use mir.Val.{SFits}
 use Rattle.signed.specs.Vectors.{allWithin, squareSum, innerProduct}
 use Rattle.signed.proofs.Signs.{fits-of-abs, read-back}
 use Rattle.read_list.specs.Entries.{entry, placesUp}
-use Rattle.read_list.proofs.Laws.{sets-append}
+use Rattle.read_list.proofs.Laws.{written-behind}
 use Rattle.challenge.specs.Product.{product, productEntries}
-use Rattle.challenge.proofs.ProductLaws.{length-product, length-productEntries, product-within}
+use Rattle.challenge.proofs.ProductSizes.{length-product, length-productEntries, product-within}
 use Rattle.response.specs.Response.{subtracts, responseOf, responseZ, measuresOf}
 use Rattle.response.proofs.Passes.{inner-bound}
 use Rattle.response.proofs.measured.Statement.{statement}
@@ -25,9 +25,7 @@ note-requires : tie.Need-note-requires
 note-requires c κs = search needs
 
 product-listed-requires : tie.Need-product-listed-requires
-product-listed-requires c κs =
-    let s = c .before .before .before .before .before .before .before .before .before in
-    (s .pre .0, (s .pre .1 .3, omega (arith, s .pre .1 .4, c .before .before .before .before .note .kept .1 .1 .0)))
+product-listed-requires c κs = search needs
 
 mul-at : tie.Need-mul-at
 mul-at c = search needs
@@ -78,9 +76,8 @@ written : (n : ℕ) (challenge l l₁ l₂ l₃ : List ℕ) → l₁ ≡ set l 0
     → l₃ ≡ sets l 0 (entry 7 n ∷ (productEntries n challenge ++ placesUp 2 0 3))
 written n challenge l l₁ l₂ l₃ e₁ e₂ e₃ =
     let es = productEntries n challenge in
-    e₃
-    ∙ ap₂ (λ (k : List ℕ) (p : ℕ). sets k (1 + p) (placesUp 2 0 3)) (e₂ ∙ ap (λ (k : List ℕ). sets k 1 es) e₁) (sym (length-productEntries n challenge))
-    ∙ sym (sets-append (set l 0 (entry 7 n)) 1 es (placesUp 2 0 3))
+    let words = placesUp 2 0 3 in
+    written-behind l 0 1 (entry 7 n ∷ []) (es ++ words) e₁ (written-behind l₁ 1 (1 + 2 * n * length challenge) es words e₂ e₃ (omega (arith, length-productEntries n challenge))) refl
 
 returns : tie.Need-returns
 returns c =

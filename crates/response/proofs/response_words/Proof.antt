@@ -1,22 +1,19 @@
 -- `response::response_words` meets its contract. Assumes nothing.
 use borrow.Author.Needs.{needs}
-use mathlib.Core.Path.{_≡_}
+use mathlib.Core.Path.{_≡_, refl}
 use mathlib.Core.List.{List}
-use Prim.Native.Nat.{ℕ, suc, _+_}
-use native.Mathlib.Omega.{arith}
+use Prim.Native.Nat.{ℕ, _+_}
 use lib.ListN.{set}
 use lib.Seq.{sets}
 use Rattle.read_list.specs.Entries.{entry, placesUp}
+use Rattle.read_list.proofs.Laws.{placesUp-more}
 use Rattle.response.proofs.response_words.Statement.{statement}
 use Rattle.response.proofs.response_words.Tie as tie
 
 -- three entries, one after the other
 three : (l l₁ l₂ l₃ : List ℕ) (at : ℕ) → l₁ ≡ set l at (entry 2 0) → l₂ ≡ set l₁ (at + 1) (entry 2 1) → l₃ ≡ set l₂ (at + 2) (entry 2 2) → l₃ ≡ sets l at (placesUp 2 0 3)
 unfolding placesUp
-three l l₁ l₂ l₃ at e₁ e₂ e₃ =
-    let a₁ : at + 1 ≡ suc at = omega arith in
-    let a₂ : at + 2 ≡ suc (suc at) = omega arith in
-    rw (e₃, e₂, e₁, a₁, a₂)
+three l l₁ l₂ l₃ at e₁ e₂ e₃ = placesUp-more 2 0 2 l at (placesUp-more 2 0 1 l at e₁ e₂ refl refl) e₃ refl refl
 
 listed-word-requires : tie.Need-listed-word-requires
 listed-word-requires c κs = search needs

@@ -1,4 +1,5 @@
 -- `sampler::draw` meets its contract, full or spent: the loop's invariant is `Turn`. Assumes nothing.
+use borrow.Author.Needs.{needs}
 use mathlib.Core.Path.{_≡_, _∙_}
 use Prim.Native.Nat.{_<_, _-_, _*_, _≤_}
 use native.Mathlib.Omega.{arith}
@@ -10,7 +11,7 @@ use Rattle.exponential.specs.Exponential.{expScaled}
 use Rattle.attempt.specs.Attempt.{bitAt, sampleAt}
 use Rattle.sampler.specs.Draw.{drawBits}
 use Rattle.arithmetic.proofs.Bits.{bit-le}
-use Rattle.sampler.proofs.DrawLaws.{Turn, start, more, end, full, spent}
+use Rattle.sampler.proofs.DrawLaws.{Turn, turn-start, turn-more, turn-end, full, spent}
 use Rattle.sampler.proofs.draw.Statement.{statement}
 use Rattle.sampler.proofs.draw.Tie as tie
 
@@ -22,13 +23,13 @@ abbrev μ-loop : tie.MeasureT-loop
 μ-loop degree limit cdt table reciprocal words y₀ list₀ want t₀ k₀ at₀ y list t k at = limit - t
 
 mul-want : tie.Need-mul-want Inv-loop μ-loop
-mul-want c = omega (arith, c .before .before .before .before .pre .1 .0)
+mul-want c = search needs
 
 note-requires : tie.Need-note-requires Inv-loop μ-loop
-note-requires c κs = let s = c .before .before .before .before .before .pre .1 in (omega arith, omega (arith, s .0), omega (arith, s .4))
+note-requires c κs = search needs
 
 loop-holds : tie.Need-loop-holds Inv-loop μ-loop
-loop-holds c = start _ _ _ _ _ _
+loop-holds c = turn-start _ _ _ _ _ _
 
 -- ** In the loop
 
@@ -73,14 +74,10 @@ add-k c =
     omega (arith, bit-le (c .before .before .before .attempt .result), inside i .1, first (i .before) .pre .1 .0)
 
 add-at : tie.Need-add-at Inv-loop μ-loop
-add-at c =
-    let i = c .before .before .before .before .before .before in
-    omega (arith, i .before .loop .inv .here, inside i .0, first (i .before) .pre .1 .1)
+add-at c = search needs
 
 add-t : tie.Need-add-t Inv-loop μ-loop
-add-t c =
-    let i = c .before .before .before .before .before .before in
-    omega (arith, inside i .0, first (i .before) .pre .1 .1)
+add-t c = search needs
 
 loop-less : tie.Need-loop-less Inv-loop μ-loop
 loop-less c = omega (arith, inside (c .before .before .before .before .before .before) .0)
@@ -91,53 +88,47 @@ loop-again c =
     let i = c .before .before .before .before .before .before in
     let s = first (i .before) in
     let y : 2 * s .args .degree ≤ length (s .args .y .now) = omega (arith, s .pre .1 .3) in
-    more (bitAt (expScaled (s .args .table .now) (s .args .reciprocal)) (s .args .cdt .now) (s .args .words .now)) (sampleAt (s .args .cdt .now) (s .args .words .now)) _ _ _ _ _ _ _ _ _ _ _ (a .result)
-    (i .before .loop .inv) (inside i .0) (inside i .1) y (a .ensures .0) (a .ensures .1 .0) (a .ensures .1 .1)
+    turn-more (i .before .loop .inv) (inside i .0) (inside i .1) y (a .ensures .0) (a .ensures .1 .0) (a .ensures .1 .1)
 
 -- ** After the loop
 
 note-requires-2 : tie.Need-note-requires-2 Inv-loop μ-loop
-note-requires-2 c κs =
-    let r = c .before .before .loop .inv in
-    let s = first (c .before .before) .pre .1 in
-    (omega arith, omega (arith, r .kept, s .0), omega (arith, r .here, r .made, same-list (c .before .before), s .4))
+note-requires-2 c κs = search needs
 
 add-entries : tie.Need-add-entries Inv-loop μ-loop
-add-entries c =
-    let l = c .before .before .before .before .before in
-    omega (arith, l .loop .inv .here, l .loop .inv .made, first l .pre .1 .1)
+add-entries c = search needs
 
 zero-all-requires : tie.Need-zero-all-requires Inv-loop μ-loop
 zero-all-requires c κs = tt
 
 same-length : tie.Need-same-length Inv-loop μ-loop
-same-length c = c .before .zero-all .kept .0 ∙ c .before .before .before .before .before .before .before .before .before .loop .inv .same-y
+same-length c = search needs
 
 same-length-2 : tie.Need-same-length-2 Inv-loop μ-loop
-same-length-2 c = c .before .before .before .before .before .before .note2 .kept .1 .1 .0 ∙ same-list (c .before .before .before .before .before .before .before .before .before)
+same-length-2 c = search needs
 
 returns : tie.Need-returns Inv-loop μ-loop
 unfolding drawBits
 returns c =
     let l = c .before .before .before .before .before .before .before .before .before in
     let s = first l in
-    spent (s .args .degree) (s .args .cdt .now) (s .args .words .now) _ (s .args .list .now) _ _ _ _ (l .before .before .before .note .ensures)
-    (end (bitAt (expScaled (s .args .table .now) (s .args .reciprocal)) (s .args .cdt .now) (s .args .words .now)) (sampleAt (s .args .cdt .now) (s .args .words .now)) _ _ _ _ _ _ _ _ _ _ (l .loop .inv) (c .before .before .before .before .before .before .before .before .loop-test .left) (c .before .before .before .before .before .before .note2 .ensures))
-    (l .loop .inv .same-y ∙ s .pre .1 .3) (c .before .before .before .if1 .taken) _ (c .before .zero-all .ensures)
+    spent (s .args .degree) (s .args .cdt .now) (s .args .words .now) (s .args .list .now) (l .before .before .before .note .ensures)
+    (turn-end (l .loop .inv) (c .before .before .before .before .before .before .before .before .loop-test .left) (c .before .before .before .before .before .before .note2 .ensures))
+    (l .loop .inv .same-y ∙ s .pre .1 .3) (c .before .before .before .if1 .taken) (c .before .zero-all .ensures)
 
 same-length-3 : tie.Need-same-length-3 Inv-loop μ-loop
-same-length-3 c = c .before .before .before .before .before .before .loop .inv .same-y
+same-length-3 c = search needs
 
 same-length-4 : tie.Need-same-length-4 Inv-loop μ-loop
-same-length-4 c = c .before .before .before .note2 .kept .1 .1 .0 ∙ same-list (c .before .before .before .before .before .before)
+same-length-4 c = search needs
 
 returns-2 : tie.Need-returns-2 Inv-loop μ-loop
 unfolding drawBits
 returns-2 c =
     let l = c .before .before .before .before .before .before in
     let s = first l in
-    full (s .args .degree) (s .args .cdt .now) (s .args .words .now) _ (s .args .list .now) _ _ _ _ (l .before .before .before .note .ensures)
-    (end (bitAt (expScaled (s .args .table .now) (s .args .reciprocal)) (s .args .cdt .now) (s .args .words .now)) (sampleAt (s .args .cdt .now) (s .args .words .now)) _ _ _ _ _ _ _ _ _ _ (l .loop .inv) (c .before .before .before .before .before .loop-test .left) (c .before .before .before .note2 .ensures))
+    full (s .args .degree) (s .args .cdt .now) (s .args .words .now) (s .args .list .now) (l .before .before .before .note .ensures)
+    (turn-end (l .loop .inv) (c .before .before .before .before .before .loop-test .left) (c .before .before .before .note2 .ensures))
     (l .loop .inv .same-y ∙ s .pre .1 .3) (c .if1 .left)
 
 pub draw-spec : {M : Type 1} → statement M

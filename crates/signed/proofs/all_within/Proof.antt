@@ -2,7 +2,7 @@
 -- Assumes nothing.
 use borrow.Author.Needs.{needs}
 use borrow.Author.Tests.{lt-ltb, le-ltb, leb-true, leb-false}
-use mathlib.Core.Path.{_≡_, refl, sym, ap, subst, _∙_}
+use mathlib.Core.Path.{_≡_, refl, sym, ap, _∙_}
 use mathlib.Core.Bool.{Bool, true, false, not, _&&_, _||_, and-true}
 use mathlib.Core.List.{List}
 use Prim.Native.Nat.{ℕ, zero, suc, _≤_, _<_, _+_, _-_, _^_}
@@ -10,7 +10,7 @@ use native.Mathlib.Nat.{not-suc-le-zero, le-of-suc-le-suc}
 use native.Mathlib.Numerals.{add-one}
 use native.Mathlib.Omega.{arith}
 use lib.Dec.{leb}
-use lib.IntN.{ℤ, pos, negsuc, negℤ, natAbs, _-ℤ_, +ℤ-idl}
+use lib.IntN.{ℤ, pos, negsuc, negℤ, natAbs, _-ℤ_}
 use lib.ListN.{length, drop, getD}
 use lib.Seq.{drop-cons, drop-length}
 use lib.Signed.{ltZ}
@@ -18,7 +18,7 @@ use mir.Syntax.{w32}
 use mir.Val.{SFits, toZ, ofZ}
 use mir.ValLaws.{toZ-pos}
 use Rattle.signed.specs.Vectors.{allWithin}
-use Rattle.signed.proofs.Signs.{abs-neg, fits-of-abs, read-back}
+use Rattle.signed.proofs.Signs.{read-back, zero-minus, zero-minus-fits}
 use Rattle.signed.proofs.all_within.Statement.{statement}
 use Rattle.signed.proofs.all_within.Tie as tie
 
@@ -50,10 +50,10 @@ module _ (m : ℕ) (h : m < 2 ^ 16) where
   bound-back = toZ-pos w32 m (omega arith)
 
   low-is : pos 0 -ℤ toZ w32 m ≡ negℤ (pos m)
-  low-is = ap (λ (z : ℤ). pos 0 -ℤ z) bound-back ∙ +ℤ-idl (negℤ (pos m))
+  low-is = zero-minus (toZ w32 m) ∙ ap negℤ bound-back
 
   low-fits : SFits w32 (pos 0 -ℤ toZ w32 m)
-  low-fits = subst (SFits w32) (sym low-is) (fits-of-abs (omega (arith, abs-neg (pos m))))
+  low-fits = zero-minus-fits (toZ w32 m) (rw bound-back (omega arith))
 
   -- as the code has them: read from bits
   comparisons : (v : ℤ) → SFits w32 v → (ltZ (toZ w32 (ofZ w32 v)) (toZ w32 (ofZ w32 (pos 0 -ℤ toZ w32 m))) || ltZ (toZ w32 m) (toZ w32 (ofZ w32 v))) ≡ not (leb (natAbs v) m)
@@ -66,15 +66,15 @@ joined true t r = refl
 joined false true r = refl
 joined false false r = refl
 
-within-more : (m : ℕ) (values : List ℤ) (i : ℕ) (o out : Bool) → i < length values → out ≡ not (leb (natAbs (getD values i (pos 0))) m)
+turn-more : (m : ℕ) (values : List ℤ) (i : ℕ) (o out : Bool) → i < length values → out ≡ not (leb (natAbs (getD values i (pos 0))) m)
     → (not o && allWithin m (drop i values)) ≡ allWithin m values → (not (o || out) && allWithin m (drop (i + 1) values)) ≡ allWithin m values
 unfolding allWithin
-within-more m values i o out h e inv =
+turn-more m values i o out h e inv =
     rw (e, add-one i) (joined o (leb (natAbs (getD values i (pos 0))) m) (allWithin m (drop (suc i) values)) ∙ rw (drop-cons values i (pos 0)) at inv)
 
-within-done : (m : ℕ) (values : List ℤ) (i : ℕ) (o : Bool) → i ≡ length values → (not o && allWithin m (drop i values)) ≡ allWithin m values → not o ≡ allWithin m values
+turn-end : (m : ℕ) (values : List ℤ) (i : ℕ) (o : Bool) → i ≡ length values → (not o && allWithin m (drop i values)) ≡ allWithin m values → not o ≡ allWithin m values
 unfolding allWithin
-within-done m values i o e inv = sym (and-true (not o)) ∙ (rw (e, drop-length values) at inv)
+turn-end m values i o e inv = sym (and-true (not o)) ∙ (rw (e, drop-length values) at inv)
 
 abbrev Inv-loop : tie.InvT-loop
 Inv-loop values bound high low outside₀ i₀ outside i = (i ≤ length values) × ((not outside && allWithin bound (drop i values)) ≡ allWithin bound values)
@@ -83,13 +83,13 @@ abbrev μ-loop : tie.MeasureT-loop
 μ-loop values bound high low outside₀ i₀ outside i = length values - i
 
 cast-high : tie.Need-cast-high Inv-loop μ-loop
-cast-high c = fits-of-abs (omega arith)
+cast-high c = search needs
 
 sub-low : tie.Need-sub-low Inv-loop μ-loop
 sub-low c = low-fits (c .args .bound) (c .pre)
 
 loop-holds : tie.Need-loop-holds Inv-loop μ-loop
-loop-holds c = (search needs, refl)
+loop-holds c = search needs
 
 mul-v : tie.Need-mul-v Inv-loop μ-loop
 mul-v c = search needs
@@ -108,12 +108,12 @@ loop-again c =
     let s = c .before .before .before in
     let i = c .before .before .loop .i in
     let values = s .args .values .now in
-    (omega arith, within-more (s .args .bound) values i (c .before .before .loop .outside) _ (c .before .loop-test .taken) (comparisons (s .args .bound) (s .pre) (getD values i (pos 0)) (record { sfits = c .v .given })) (c .before .before .loop .inv .1))
+    (omega arith, turn-more (s .args .bound) values i (c .before .before .loop .outside) _ (c .before .loop-test .taken) (comparisons (s .args .bound) (s .pre) (getD values i (pos 0)) (record { sfits = c .v .given })) (c .before .before .loop .inv .1))
 
 returns : tie.Need-returns Inv-loop μ-loop
 returns c =
     let values = c .before .before .args .values .now in
-    within-done (c .before .before .args .bound) values (c .before .loop .i) (c .before .loop .outside) (omega arith) (c .before .loop .inv .1)
+    turn-end (c .before .before .args .bound) values (c .before .loop .i) (c .before .loop .outside) (omega arith) (c .before .loop .inv .1)
 
 pub all-within-spec : {M : Type 1} → statement M
 all-within-spec =

@@ -2,14 +2,14 @@
 use borrow.Author.Needs.{needs}
 use mathlib.Core.Path.{_≡_, refl, ap, ap₂, _∙_}
 use mathlib.Core.Bool.{Bool, true, false, cond}
-use mathlib.Core.List.{List, _++_, append-nil}
+use mathlib.Core.List.{List, _++_}
 use Prim.Native.Nat.{ℕ, _+_, _≤_, _<_, _-_}
 use native.Mathlib.Omega.{arith}
 use lib.IntN.{ℤ, pos}
 use lib.ListN.{length, replicate, drop, set, getD, length-set}
-use lib.Seq.{drop-length, set-getD}
+use lib.Seq.{set-getD}
 use Rattle.signed.proofs.Signs.{read-back}
-use Rattle.signed.proofs.Filling.{fill-more}
+use Rattle.signed.proofs.Filling.{fill-more, fill-all}
 use Rattle.signed.proofs.keep_all.Statement.{statement}
 use Rattle.signed.proofs.keep_all.Tie as tie
 
@@ -24,7 +24,7 @@ keep-start false d = refl
 
 keep-end : (keep : Bool) (d values : List ℤ) (i : ℕ) → values ≡ cond keep d (replicate i (pos 0) ++ drop i d) → i ≡ length d → values ≡ cond keep d (replicate (length d) (pos 0))
 keep-end true d values i e h = e
-keep-end false d values i e h = e ∙ rw (h, drop-length d, append-nil)
+keep-end false d values i e h = e ∙ fill-all i (pos 0) d h
 
 abbrev Inv-loop : tie.InvT-loop
 Inv-loop values₀ keep i₀ values i = (i ≤ length values₀) × (length values ≡ length values₀) × (values ≡ cond keep values₀ (replicate i (pos 0) ++ drop i values₀))
@@ -68,7 +68,7 @@ loop-again c =
     )
 
 same-length : tie.Need-same-length Inv-loop μ-loop
-same-length c = c .before .loop .inv .1
+same-length c = search needs
 
 returns : tie.Need-returns Inv-loop μ-loop
 returns c = keep-end (c .before .before .args .keep) (c .before .before .args .values .now) (c .before .loop .values) (c .before .loop .i) (c .before .loop .inv .2) (omega arith)

@@ -1,13 +1,12 @@
 -- `signed::zero_all` meets its contract: after i turns the first i values are zero, and the others stand. Assumes nothing.
 use borrow.Author.Needs.{needs}
-use mathlib.Core.Path.{_≡_, refl, ap, _∙_}
-use mathlib.Core.List.{List, _++_, append-nil}
+use mathlib.Core.Path.{_≡_, ap, _∙_}
+use mathlib.Core.List.{List, _++_}
 use Prim.Native.Nat.{_≤_, _<_, _-_}
 use native.Mathlib.Omega.{arith}
 use lib.IntN.{ℤ, pos}
 use lib.ListN.{length, replicate, drop, set, length-set}
-use lib.Seq.{drop-length}
-use Rattle.signed.proofs.Filling.{fill-more}
+use Rattle.signed.proofs.Filling.{fill-more, fill-all}
 use Rattle.signed.proofs.zero_all.Statement.{statement}
 use Rattle.signed.proofs.zero_all.Tie as tie
 
@@ -18,7 +17,7 @@ abbrev μ-loop : tie.MeasureT-loop
 μ-loop values₀ i₀ values i = length values₀ - i
 
 loop-holds : tie.Need-loop-holds Inv-loop μ-loop
-loop-holds c = (search needs, refl, refl)
+loop-holds c = search needs
 
 mul-values : tie.Need-mul-values Inv-loop μ-loop
 mul-values c = search needs
@@ -44,11 +43,7 @@ same-length : tie.Need-same-length Inv-loop μ-loop
 same-length c = search needs
 
 returns : tie.Need-returns Inv-loop μ-loop
-returns c =
-    let inv = c .before .loop .inv in
-    let d = c .before .before .args .values .now in
-    let e : c .before .loop .i ≡ length d = omega arith in
-    inv .2 ∙ rw (e, drop-length d, append-nil)
+returns c = c .before .loop .inv .2 ∙ fill-all (c .before .loop .i) (pos 0) (c .before .before .args .values .now) (omega arith)
 
 pub zero-all-spec : {M : Type 1} → statement M
 zero-all-spec =

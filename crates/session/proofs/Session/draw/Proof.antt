@@ -1,18 +1,18 @@
 -- `session::Session::draw` meets its contract, refused or served. Assumes nothing.
 use borrow.Author.Needs.{needs}
 use mathlib.Core.Path.{_≡_, sym, ap, _∙_}
-use Prim.Native.Nat.{ℕ, _*_, _<_}
+use Prim.Native.Nat.{ℕ, _*_}
 use native.Mathlib.Omega.{arith}
 use lib.Dec.{lit<}
 use lib.ListN.{length}
 use Rattle.checks.proofs.Laws.{degree-range}
 use Rattle.exponential.specs.Exponential.{expScaled}
+use Rattle.exponential.proofs.Table.{by-215}
 use Rattle.sampler.specs.Draw.{drawBits, Sampled, sampledBy}
 use Rattle.refusals.proofs.Served.{DrawServed}
 use Rattle.session.specs.declared.Session.{Session}
 use Rattle.session.specs.declared.Drawn.{Drawn}
 use Rattle.session.specs.Calls.{Draw, refusalOfDraw, bitsOfDraw, drawnRefused, drawnServed, drawRefused, drawServed, drawLeft}
-use Rattle.session.proofs.Deviation.{by-215}
 use Rattle.session.proofs.Calls.{draw-passed, served-draw-leaves, refused-draw-leaves}
 use Rattle.session.proofs.Session.draw.Statement.{statement}
 use Rattle.session.proofs.Session.draw.Tie as tie

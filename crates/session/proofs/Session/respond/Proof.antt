@@ -1,18 +1,18 @@
 -- `session::Session::respond` meets its contract, refused or served. Assumes nothing.
 use borrow.Author.Needs.{needs}
 use mathlib.Core.Path.{_≡_, sym, ap, _∙_}
-use Prim.Native.Nat.{ℕ, _<_}
+use Prim.Native.Nat.{ℕ}
 use lib.Dec.{lit<}
 use lib.ListN.{length}
 use Rattle.checks.proofs.Laws.{degree-range}
 use Rattle.exponential.specs.Exponential.{expScaled}
+use Rattle.exponential.proofs.Table.{by-215}
 use Rattle.challenge.specs.Product.{product}
 use Rattle.response.specs.Response.{responseBit, Response, respondedBy}
 use Rattle.refusals.proofs.Served.{RespondServed}
 use Rattle.session.specs.declared.Session.{Session}
 use Rattle.session.specs.declared.Responded.{Responded}
 use Rattle.session.specs.Calls.{Respond, refusalOfRespond, bitOfRespond, zOfRespond, respondedRefused, respondedServed, respondRefused, respondServed, respondLeft}
-use Rattle.session.proofs.Deviation.{by-215}
 use Rattle.session.proofs.Calls.{respond-passed, served-respond-leaves, refused-respond-leaves}
 use Rattle.session.proofs.Session.respond.Statement.{statement}
 use Rattle.session.proofs.Session.respond.Tie as tie
@@ -65,7 +65,7 @@ passed c = respond-passed (start (c .before) .args .self) (call (start (c .befor
 respond-requires : tie.Need-respond-requires
 respond-requires c κs =
     let k = passed (c .before .before .before) in
-    (record { degree = degree-range _ (k .degree) .1; both = k .key-both; small = k .key-small; few = k .few; below = k .below }, (k .is-polynomial, lit< tt, k .words-enough, k .y-both, k .y-small, k .z-both, k .list-enough))
+    (record { degree = degree-range _ (k .degree) .1; both = k .key-both; small = k .key-small; few = k .positions .few; below = k .positions .below }, (k .is-polynomial, lit< tt, k .words-enough, k .y-both, k .y-small, k .z-both, k .list-enough))
 
 same-length-2 : tie.Need-same-length-2
 same-length-2 c = search needs
