@@ -24,9 +24,9 @@ use Rattle.challenge.specs.Product.{termAt, outputAt, outputsFrom, product, out
 use Rattle.acceptance.specs.Acceptance.{coshPasses, allPass, acceptsBy, acceptanceEntries}
 use Rattle.response.specs.Response.{responseOf, measuresOf, respondEntries, responseZ, responseBit, respondedBy}
 use Rattle.refusals.specs.Refusals.{openRefusal, drawRefusal, respondRefusal}
-use Rattle.session.specs.Calls.{opened, refusalOfDraw, bitsOfDraw, drawServed, drawLeft, refusalOfRespond, bitOfRespond, respondServed, respondLeft}
-use Rattle.session.specs.Histories.{draw, respond, leftBy, nextIn, entriesIn, Linked, eventOf, history}
-use Rattle.session.specs.Demand3.{NoneRefused, AllAlike, Agreeing}
+use Rattle.session.specs.Calls.{opened, refusalOfDraw, bitsOfDraw, drawServed, drawLeft, refusalOfRespond, bitOfRespond, zOfRespond, respondServed, respondLeft}
+use Rattle.session.specs.Histories.{draw, respond, leftBy, nextIn, entriesIn, Linked, readList, eventOf, history}
+use Rattle.session.specs.Demand3.{NoneRefused, AllAlike, Agreeing, seen}
 use Rattle.known_points.specs.Demand3Instance.{fives, drawOver, drawing, rejecting, responding, callsOver, calls, calls′, callsRejecting, start, drawnAndAnswered, Demand3Instance}
 use Rattle.session.proofs.Demand3.{demand3}
 
@@ -76,7 +76,7 @@ unfolding callsOver callsRejecting rejecting drawing responding drawOver fives e
     bitAt accepts sampleAt sample baseSample atOrBelow expWith expScaled reciprocal scaled evaluate squared squarings sampledBy
     accepted drawY samplesFrom drawEntries entriesFrom attemptEntries placesUp placesDown filledPart respondedBy responseBit
     responseZ responseOf measuresOf acceptsBy allPass coshPasses squareSum innerProduct product outputsFrom outputAt termAt respondEntries acceptanceEntries
-    productEntries outputEntriesFrom outputEntries
+    productEntries outputEntriesFrom outputEntries seen readList zOfRespond
 demand3-instance =
     let linked : Linked start (replicate 8 (pos 0)) calls = ((λ h. refl), ((λ h. refl), tt)) in
     let linked′ : Linked start (replicate 8 (pos 1)) calls′ = ((λ h. refl), ((λ h. refl), tt)) in
@@ -100,6 +100,8 @@ demand3-instance =
       words-differ = λ e. let z = ap (λ (l : List ℕ). getD l 32 0) e in omega arith;
       seen-same = same .0;
       reads-same = same .1;
+      seen-is = refl;
+      reads-are = refl;
       history-is = refl;
       history-is′ = refl;
       linked-rejecting = linked-rejecting;

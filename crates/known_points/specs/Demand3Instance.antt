@@ -8,10 +8,12 @@ use lib.IntN.{ℤ, pos, negsuc}
 use lib.ListN.{replicate}
 use Rattle.exponential.specs.Exponential.{polynomial}
 use Rattle.known_points.specs.EvenThresholds.{evenThresholds}
+use Rattle.sampler.specs.Draw.{drawEntries}
+use Rattle.response.specs.Response.{respondEntries}
 use Rattle.session.specs.declared.Session.{Session}
 use Rattle.session.specs.Calls.{opened, Draw, Respond}
 use Rattle.session.specs.Histories.{Call, draw, respond, Linked, readList, Event, drew, answered, history}
-use Rattle.session.specs.Demand3.{NoneRefused, AllAlike, Agreeing, seen}
+use Rattle.session.specs.Demand3.{NoneRefused, AllAlike, Agreeing, Seen, sampled, answer, seen}
 
 -- ** What is lent
 
@@ -68,6 +70,14 @@ start = opened 4 .session
 abbrev pub drawnAndAnswered : (bits : List Bool) → List Event
 drawnAndAnswered bits = drew 4 bits ∷ answered 4 true (0 ∷ 2 ∷ []) ∷ []
 
+-- what the caller sees of the draw: full after eight attempts, and y
+abbrev pub drawnFives : Seen
+drawnFives = sampled (record { answer = record { refusal = 0; attempts = 8; accepted = 8; entries = 370 }; session = record { degree = 4; drawn = true } }) (replicate 8 (pos 5))
+
+-- and of the respond: its bit is 1, y is all zero, and z
+abbrev pub answeredBy : (z : List ℤ) → Seen
+answeredBy z = answer (record { answer = record { refusal = 0; bit = true; entries = 63 }; session = record { degree = 4; drawn = false } }) (replicate 8 (pos 0)) z
+
 -- ** What demand 3 says of them
 
 pub record Demand3Instance : Type 0 where
@@ -83,6 +93,9 @@ pub record Demand3Instance : Type 0 where
   -- what the second half gives
   pub seen-same : seen start calls ≡ seen start calls′
   pub reads-same : readList start calls ≡ readList start calls′
+  -- what both give: five eight times; then z, all of y + Sc, Sc being 2, -2, 0, 2 and 3, -3, 3, -1
+  pub seen-is : seen start calls ≡ drawnFives ∷ answeredBy (pos 7 ∷ pos 3 ∷ pos 5 ∷ pos 7 ∷ pos 8 ∷ pos 2 ∷ pos 8 ∷ pos 4 ∷ []) ∷ []
+  pub reads-are : readList start calls ≡ drawEntries 4 (replicate 8 true) ++ respondEntries 4 true (0 ∷ 2 ∷ [])
   -- the history of both
   pub history-is : history start calls ≡ drawnAndAnswered (replicate 8 true)
   pub history-is′ : history start calls′ ≡ drawnAndAnswered (replicate 8 true)

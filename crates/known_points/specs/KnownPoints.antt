@@ -7,14 +7,16 @@ use mathlib.Core.List.{List, [], _∷_, _++_}
 use Prim.Native.Nat.{ℕ, zero, suc, _+_, _-_, _*_, _^_, _<_}
 use lib.IntN.{ℤ, pos, negsuc}
 use lib.ListN.{length, take, drop, set, replicate}
+use Rattle.read_list.specs.Entries.{entry}
 use Rattle.signed.specs.Vectors.{squareSum}
 use Rattle.exponential.specs.Exponential.{polynomialEntry, polynomial, reciprocal, divisor, limit, attemptLimit, exp, expWith, expOrRefusal}
 use Rattle.base_sample.specs.BaseSample.{isCdt, baseSample}
 use Rattle.known_points.specs.EvenThresholds.{evenThresholds}
 use Rattle.attempt.specs.Attempt.{size, exponent, drawAt, lowBitsAt, negativeAt, bitAt, sampleAt}
+use Rattle.sampler.specs.Draw.{drawEntries}
 use Rattle.challenge.specs.Product.{product}
 use Rattle.acceptance.specs.Acceptance.{squaresLimit, normLimit, coshPasses}
-use Rattle.response.specs.Response.{noiseBound, responseBound, subtracts, responseZ, responseBit}
+use Rattle.response.specs.Response.{noiseBound, responseBound, subtracts, responseZ, responseBit, respondEntries}
 use Rattle.refusals.specs.Refusals.{openRefusal, drawRefusal, respondRefusal}
 
 -- ** What the points are about
@@ -120,6 +122,19 @@ pub record KnownPoints : Type 0 where
   pub refusal-10 : respondOf4 true (0 ∷ []) (pos 8 ∷ replicate 7 (pos 0)) (replicate 8 (pos 0)) 55 ≡ 10
   pub refusal-11 : respondOf4 true (0 ∷ []) (replicate 8 (pos 0)) (pos 2816 ∷ replicate 7 (pos 0)) 55 ≡ 11
   pub refusal-12 : expOrRefusal 5534961 ≡ 2 ^ 63 + 12
+  -- a challenge that is empty, and one with a position n
+  pub refusal-6-empty : respondOf4 true [] (replicate 8 (pos 0)) (replicate 8 (pos 0)) 47 ≡ 6
+  pub refusal-6-position : respondOf4 true (4 ∷ []) (replicate 8 (pos 0)) (replicate 8 (pos 0)) 55 ≡ 6
+  -- of several that apply, the first
+  pub first-2 : drawOf4 7 (take 19 evenThresholds) (set polynomial 19 38) 0 0 ≡ 2
+  pub first-3 : drawOf4 7 (set evenThresholds 19 (2 ^ 62)) (set polynomial 19 38) 0 0 ≡ 3
+  pub first-4 : drawOf4 7 evenThresholds (set polynomial 19 38) 0 0 ≡ 4
+  pub first-5 : drawOf4 7 evenThresholds polynomial 0 0 ≡ 5
+  pub first-7 : drawOf4 8 evenThresholds polynomial 31 369 ≡ 7
+  pub first-6 : respondOf4 false (2 ∷ 2 ∷ []) (replicate 8 (pos 8)) (replicate 8 (pos 2816)) 0 ≡ 6
+  pub first-8 : respondOf4 false (0 ∷ []) (replicate 8 (pos 8)) (replicate 8 (pos 2816)) 54 ≡ 8
+  pub first-9 : respondOf4 false (0 ∷ []) (replicate 8 (pos 8)) (replicate 8 (pos 2816)) 55 ≡ 9
+  pub first-10 : respondOf4 true (0 ∷ []) (replicate 8 (pos 8)) (replicate 8 (pos 2816)) 55 ≡ 10
   -- n = 4: L = 8 and 370 list entries are served, L = 128 with 5,890 too; L = 129 is refusal 5
   pub served-8 : drawOf4 8 evenThresholds polynomial 32 370 ≡ 0
   pub served-128 : drawOf4 128 evenThresholds polynomial 512 5890 ≡ 0
@@ -127,6 +142,33 @@ pub record KnownPoints : Type 0 where
   -- one position: 55 entries are served, 54 are refusal 8; the largest values of key and y, of both signs, are served
   pub served-55 : respondOf4 true (0 ∷ []) (pos 7 ∷ negsuc 6 ∷ replicate 6 (pos 0)) (pos 2815 ∷ negsuc 2814 ∷ replicate 6 (pos 0)) 55 ≡ 0
   pub refused-54 : respondOf4 true (0 ∷ []) (replicate 8 (pos 0)) (replicate 8 (pos 0)) 54 ≡ 8
+  --
+  -- ** Document 01: read lists, written out
+  -- an entry is kind * 2 ^ 24 + place
+  pub entry-is : entry 1 4 ≡ 16777220
+  -- a draw of one attempt, which is accepted
+  pub draw-list : drawEntries 4 (true ∷ [])
+      ≡ entry 1 4 ∷ entry 2 0 ∷ entry 2 1 ∷ entry 2 2 ∷ entry 2 3
+      ∷ entry 3 0 ∷ entry 3 1 ∷ entry 3 2 ∷ entry 3 3 ∷ entry 3 4 ∷ entry 3 5 ∷ entry 3 6 ∷ entry 3 7 ∷ entry 3 8 ∷ entry 3 9
+      ∷ entry 3 10 ∷ entry 3 11 ∷ entry 3 12 ∷ entry 3 13 ∷ entry 3 14 ∷ entry 3 15 ∷ entry 3 16 ∷ entry 3 17 ∷ entry 3 18 ∷ entry 3 19
+      ∷ entry 4 20 ∷ entry 4 19 ∷ entry 4 18 ∷ entry 4 17 ∷ entry 4 16 ∷ entry 4 15 ∷ entry 4 14 ∷ entry 4 13 ∷ entry 4 12 ∷ entry 4 11
+      ∷ entry 4 10 ∷ entry 4 9 ∷ entry 4 8 ∷ entry 4 7 ∷ entry 4 6 ∷ entry 4 5 ∷ entry 4 4 ∷ entry 4 3 ∷ entry 4 2 ∷ entry 4 1 ∷ entry 4 0
+      ∷ entry 5 0 ∷ entry 6 1 ∷ []
+  -- the words of a second attempt, and the end of its list
+  pub second-words : take 5 (drop 47 (drawEntries 4 (true ∷ false ∷ []))) ≡ entry 2 4 ∷ entry 2 5 ∷ entry 2 6 ∷ entry 2 7 ∷ entry 3 0 ∷ []
+  pub second-end : drop 92 (drawEntries 4 (true ∷ false ∷ [])) ≡ entry 5 1 ∷ entry 6 1 ∷ []
+  -- an accepted response to the challenge 1
+  pub respond-list : respondEntries 4 true (1 ∷ [])
+      ≡ entry 7 4 ∷ entry 8 3 ∷ entry 8 0 ∷ entry 8 1 ∷ entry 8 2
+      ∷ entry 8 7 ∷ entry 8 4 ∷ entry 8 5 ∷ entry 8 6
+      ∷ entry 2 0 ∷ entry 2 1 ∷ entry 2 2
+      ∷ entry 4 20 ∷ entry 4 19 ∷ entry 4 18 ∷ entry 4 17 ∷ entry 4 16 ∷ entry 4 15 ∷ entry 4 14 ∷ entry 4 13 ∷ entry 4 12 ∷ entry 4 11
+      ∷ entry 4 10 ∷ entry 4 9 ∷ entry 4 8 ∷ entry 4 7 ∷ entry 4 6 ∷ entry 4 5 ∷ entry 4 4 ∷ entry 4 3 ∷ entry 4 2 ∷ entry 4 1 ∷ entry 4 0
+      ∷ entry 4 20 ∷ entry 4 19 ∷ entry 4 18 ∷ entry 4 17 ∷ entry 4 16 ∷ entry 4 15 ∷ entry 4 14 ∷ entry 4 13 ∷ entry 4 12 ∷ entry 4 11
+      ∷ entry 4 10 ∷ entry 4 9 ∷ entry 4 8 ∷ entry 4 7 ∷ entry 4 6 ∷ entry 4 5 ∷ entry 4 4 ∷ entry 4 3 ∷ entry 4 2 ∷ entry 4 1 ∷ entry 4 0
+      ∷ entry 9 1 ∷ []
+  -- a rejected one ends otherwise
+  pub rejected-end : drop 54 (respondEntries 4 false (1 ∷ [])) ≡ entry 9 0 ∷ []
   --
   -- ** Our own: base sample
   -- the tables of these points are CDT tables

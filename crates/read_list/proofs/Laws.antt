@@ -7,7 +7,7 @@ use native.Mathlib.Omega.{arith}
 use borrow.Author.Tests.{le-leb}
 use lib.Arith.{digits-div, digits-mod}
 use lib.ListN.{length, drop, set}
-use lib.Seq.{sets, sets-eq, length-sets, take-append-seam, drop-length}
+use lib.Seq.{sets, sets-eq, length-sets, take-append-seam, drop-append-seam, drop-length}
 use Rattle.read_list.specs.Entries.{entry, kindOf, placeOf, placesUp, placesDown, filledPart}
 
 -- ** An entry taken apart
@@ -71,3 +71,7 @@ unfolding filledPart
 filled-written list es h =
     rw (length-sets list 0 es, le-leb (length es) (length list) h, sets-eq es list 0 (rw zero-add h))
     (take-append-seam es (drop (0 + length es) list))
+
+-- behind what is written from its start a list is unchanged
+pub rest-unwritten : (list es : List ℕ) → length es ≤ length list → drop (length es) (sets list 0 es) ≡ drop (length es) list
+rest-unwritten list es h = rw (sets-eq es list 0 (rw zero-add h)) (drop-append-seam es (drop (0 + length es) list) ∙ rw zero-add)

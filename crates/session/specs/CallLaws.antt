@@ -1,38 +1,91 @@
--- What follows for every call, refused or served. Assumes nothing.
+-- What follows for every call, refused or served, said of what the caller sees and not by the definitions of Calls. Assumes nothing.
 use mathlib.Core.Path.{_≡_}
-use Prim.Native.Nat.{_≤_}
-use lib.ListN.{length}
+use mathlib.Core.Bool.{true, false}
+use mathlib.Core.Logic.{_↔_}
+use Prim.Native.Nat.{ℕ, _*_, _≤_}
+use lib.IntN.{pos}
+use lib.ListN.{length, drop, replicate}
 use Rattle.sampler.specs.Draw.{drawListLength}
 use Rattle.response.specs.Response.{respondListLength}
 use Rattle.session.specs.declared.Session.{Session}
-use Rattle.session.specs.Calls.{Draw, drawRefused, drawLeft, Respond, respondRefused, respondLeft}
+use Rattle.session.specs.Calls.{opened, Draw, DrawLeft, drawLeft, Respond, RespondLeft, respondLeft}
+
+-- ** An opening
+
+-- nothing is drawn; served, the degree is n, and refused 0
+pub record Fresh (n : ℕ) : Type 0 where
+  pub not-drawn : opened n .session .drawn ≡ false
+  pub served : opened n .refusal ≡ 0 → opened n .session .degree ≡ n
+  pub refused : (opened n .refusal ≡ 0 → ⊥) → opened n .session .degree ≡ 0
+
+abbrev pub OpeningIsFresh : Type 0
+OpeningIsFresh = (n : ℕ) → Fresh n
 
 -- ** A draw
 
--- its count of entries is at most 46L + 2, and at most the length of its list
+-- its count of entries is at most 46L + 2, and at most the length of its list; behind them the list is unchanged
 abbrev pub DrawCountsEntries : Type 0
-DrawCountsEntries = (s : Session) (d : Draw) → let count = drawLeft s d .drawn .answer .entries in (count ≤ drawListLength (d .limit)) × (count ≤ length (d .list))
+DrawCountsEntries =
+    (s : Session) (d : Draw) → let left = drawLeft s d in let count = left .drawn .answer .entries in
+    (count ≤ drawListLength (d .limit)) × (count ≤ length (d .list)) × (drop count (left .list) ≡ drop count (d .list))
 
 -- it keeps the degree
 abbrev pub DrawKeepsDegree : Type 0
 DrawKeepsDegree = (s : Session) (d : Draw) → drawLeft s d .drawn .session .degree ≡ s .degree
 
--- refused, it leaves everything as it was, and counts nothing
+-- the session, y and the list are as they were, and nothing is counted
+pub record DrawUntouched (s : Session) (d : Draw) (left : DrawLeft) : Type 0 where
+  pub session : left .drawn .session ≡ s
+  pub y : left .y ≡ d .y
+  pub list : left .list ≡ d .list
+  pub attempts : left .drawn .answer .attempts ≡ 0
+  pub accepted : left .drawn .answer .accepted ≡ 0
+  pub entries : left .drawn .answer .entries ≡ 0
+
+-- so a refused draw leaves it
 abbrev pub RefusedDrawTouchesNothing : Type 0
-RefusedDrawTouchesNothing = (s : Session) (d : Draw) → let left = drawLeft s d in (left .drawn .answer .refusal ≡ 0 → ⊥) → left ≡ drawRefused (left .drawn .answer .refusal) s d
+RefusedDrawTouchesNothing = (s : Session) (d : Draw) → let left = drawLeft s d in (left .drawn .answer .refusal ≡ 0 → ⊥) → DrawUntouched s d left
+
+-- served, y is drawn exactly where it is full, and all zero where it is spent
+pub record DrawnIfFull (s : Session) (left : DrawLeft) : Type 0 where
+  pub full : (left .drawn .session .drawn ≡ true) ↔ (left .drawn .answer .accepted ≡ 2 * s .degree)
+  pub spent : left .drawn .session .drawn ≡ false → left .y ≡ replicate (2 * s .degree) (pos 0)
+
+abbrev pub ServedDrawSetsDrawn : Type 0
+ServedDrawSetsDrawn = (s : Session) (d : Draw) → let left = drawLeft s d in left .drawn .answer .refusal ≡ 0 → DrawnIfFull s left
 
 -- ** A respond
 
--- its count of entries is just 2n times the length of the challenge and 47 where it is served, and at most the length of its list
+-- its count of entries is just 2n times the length of the challenge and 47 where it is served, and at most the length of its list; behind
+-- them the list is unchanged
 abbrev pub RespondCountsEntries : Type 0
 RespondCountsEntries =
-    (s : Session) (r : Respond) → let answer = respondLeft s r .responded .answer in
-    (answer .refusal ≡ 0 → answer .entries ≡ respondListLength (s .degree) (length (r .challenge))) × (answer .entries ≤ length (r .list))
+    (s : Session) (r : Respond) → let left = respondLeft s r in let answer = left .responded .answer in
+    (answer .refusal ≡ 0 → answer .entries ≡ respondListLength (s .degree) (length (r .challenge)))
+    × (answer .entries ≤ length (r .list)) × (drop (answer .entries) (left .list) ≡ drop (answer .entries) (r .list))
 
 -- it keeps the degree
 abbrev pub RespondKeepsDegree : Type 0
 RespondKeepsDegree = (s : Session) (r : Respond) → respondLeft s r .responded .session .degree ≡ s .degree
 
--- refused, it leaves everything as it was, and counts nothing
+-- the session, y, z and the list are as they were, and the bit and the count are 0
+pub record RespondUntouched (s : Session) (r : Respond) (left : RespondLeft) : Type 0 where
+  pub session : left .responded .session ≡ s
+  pub y : left .y ≡ r .y
+  pub z : left .z ≡ r .z
+  pub list : left .list ≡ r .list
+  pub bit : left .responded .answer .bit ≡ false
+  pub entries : left .responded .answer .entries ≡ 0
+
+-- so a refused respond leaves it
 abbrev pub RefusedRespondTouchesNothing : Type 0
-RefusedRespondTouchesNothing = (s : Session) (r : Respond) → let left = respondLeft s r in (left .responded .answer .refusal ≡ 0 → ⊥) → left ≡ respondRefused (left .responded .answer .refusal) s r
+RefusedRespondTouchesNothing = (s : Session) (r : Respond) → let left = respondLeft s r in (left .responded .answer .refusal ≡ 0 → ⊥) → RespondUntouched s r left
+
+-- served, nothing is drawn any more, y is all zero, and so is z where the bit is 0
+pub record NoiseSpent (s : Session) (left : RespondLeft) : Type 0 where
+  pub not-drawn : left .responded .session .drawn ≡ false
+  pub y : left .y ≡ replicate (2 * s .degree) (pos 0)
+  pub z : left .responded .answer .bit ≡ false → left .z ≡ replicate (2 * s .degree) (pos 0)
+
+abbrev pub ServedRespondSpendsNoise : Type 0
+ServedRespondSpendsNoise = (s : Session) (r : Respond) → let left = respondLeft s r in left .responded .answer .refusal ≡ 0 → NoiseSpent s left
