@@ -139,7 +139,7 @@ module _ {f : ℕ → Bool} {g : ℕ → ℤ} {want limit : ℕ} {y₀ : List �
       record {
         attempts-are = all;
         accepted-are = omega (arith, ap accepted none, r .accepted-are);
-        entries-are = omega (arith, all, r .here, length-entries 0 0 (bitsFrom f 0 limit want));
+        entries-are = omega (arith, all, r .here, length-entries (bitsFrom f 0 limit want) 0 0);
         samples-are = sym (append-nil (take k y)) ∙ (rw none at (r .samples-are));
         list-is = el ∙ (rw none at (r .list-is));
       }

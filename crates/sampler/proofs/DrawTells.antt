@@ -15,12 +15,10 @@ use Rattle.sampler.specs.Draw.{stillWanted, bitsFrom, drawBits, entriesF
 
 -- ** How many they are
 
-pub length-entries : (t before : ℕ) (bits : List Bool) → length (entriesFrom t before bits) ≡ 46 * length bits + 1
+pub length-entries : (bits : List Bool) (t before : ℕ) → length (entriesFrom t before bits) ≡ 46 * length bits + 1
 unfolding entriesFrom
-length-entries t before [] = omega arith
-length-entries t before (b ∷ bits) =
-    let e = length-append (attemptEntries t before) (entriesFrom (suc t) (before + bit b) bits) in
-    omega (arith, e, length-attempt t before, length-entries (suc t) (before + bit b) bits)
+length-entries [] t before = omega arith
+length-entries (b ∷ bits) t before = rw (length-append, length-attempt, length-entries bits) (omega arith)
 
 -- no more attempts than are allowed
 bits-at-most : (f : ℕ → Bool) (t left wanted : ℕ) → length (bitsFrom f t left wanted) ≤ left
@@ -33,11 +31,11 @@ pub draw-entries-at-most : DrawEntriesAtMost
 unfolding drawEntries drawBits
 draw-entries-at-most e cdt words n limit want =
     let bits = bitsFrom (bitAt e cdt words) 0 limit want in
-    omega (arith, bits-at-most (bitAt e cdt words) 0 limit want, length-entries 0 0 bits)
+    omega (arith, bits-at-most (bitAt e cdt words) 0 limit want, length-entries bits 0 0)
 
 pub length-drawEntries : (n : ℕ) (bits : List Bool) → length (drawEntries n bits) ≡ 46 * length bits + 2
 unfolding drawEntries
-length-drawEntries n bits = omega (arith, length-entries 0 0 bits)
+length-drawEntries n bits = omega (arith, length-entries bits 0 0)
 
 -- ** What they tell
 

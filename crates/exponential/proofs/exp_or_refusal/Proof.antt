@@ -1,8 +1,9 @@
 -- `exponential::exp_or_refusal` meets its contract: the constant table is the polynomial table, and the constant is R. Assumes nothing.
 use borrow.Author.Needs.{needs}
 use borrow.Author.Tests.{lt-leb, le-leb}
-use mathlib.Core.Path.{_≡_, _∙_}
+use mathlib.Core.Path.{_≡_, refl, _∙_}
 use Prim.Native.Nat.{ℕ, _+_, _^_, _≤_, _<_}
+use native.Mathlib.Omega.{arith}
 use Rattle.exponential.specs.Exponential.{factorial, entriesFrom, polynomial, expScaled, exp, limit, expOrRefusal}
 use Rattle.exponential.proofs.Table.{by-215}
 use Rattle.exponential.proofs.Steps.{exp-in-steps}
@@ -28,7 +29,7 @@ slice-aggregate-evaluate-unlisted c = search needs
 
 evaluate-unlisted-requires : tie.Need-evaluate-unlisted-requires
 unfolding polynomial entriesFrom factorial
-evaluate-unlisted-requires c κs = search needs
+evaluate-unlisted-requires c κs = (refl, omega (arith, c .before .mul-shift22 .ensures, c .before .before .if1 .left))
 
 power64-requires : tie.Need-power64-requires
 power64-requires c κs = search needs
