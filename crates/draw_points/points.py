@@ -42,9 +42,18 @@ def changed(table, place, word):
     return [word if i == place else old for i, old in enumerate(table)]
 
 
+def asked(limit):
+    """The list entries that a draw asks for."""
+    return 46 * limit + 2
+
+
+# Document 01's known points.
+assert (asked(8), asked(128)) == (370, 5890)
+
+
 def row(n=4, limit=8, origin=OPENED, cdt=KNOWN, polynomial=POLYNOMIAL + [0], words=CLIMBING, lent=None):
     """A draw: its origin, degree, limit and tables, its words, and the lengths lent of the tables, the words, y and the list."""
-    return origin, n, limit, cdt, polynomial, words, lent or (20, 21, 4 * limit, 8, 46 * limit + 2)
+    return origin, n, limit, cdt, polynomial, words, lent or (20, 21, 4 * limit, 8, asked(limit))
 
 
 def known(*four):
@@ -69,36 +78,36 @@ def points():
     yield row(4, 8, MADE)
     yield row(4, 7, MADE_DRAWN)
 
-    # L = 8 with 370 entries and 369, L = 128 with 5,890 and 5,889.
-    yield lent(8, 20, 21, 32, 8, 370)
-    yield lent(8, 20, 21, 32, 8, 369)
-    yield lent(128, 20, 21, 512, 8, 5890)
-    yield lent(128, 20, 21, 512, 8, 5889)
+    # L = 8 and L = 128, each with just the entries that it asks for, and with one less.
+    yield lent(8, 20, 21, 32, 8, asked(8))
+    yield lent(8, 20, 21, 32, 8, asked(8) - 1)
+    yield lent(128, 20, 21, 512, 8, asked(128))
+    yield lent(128, 20, 21, 512, 8, asked(128) - 1)
     # More words and a longer list than are asked.
     yield lent(8, 20, 21, 516, 8, 5940)
     # Limits out of range: L = 7, 129, 0, 2^64 - 1, and one whose four times wraps to 32.
-    yield lent(7, 20, 21, 32, 8, 370)
-    yield lent(129, 20, 21, 516, 8, 5936)
-    yield lent(0, 20, 21, 32, 8, 370)
+    yield lent(7, 20, 21, 32, 8, asked(8))
+    yield lent(129, 20, 21, 516, 8, asked(129))
+    yield lent(0, 20, 21, 32, 8, asked(8))
     yield lent(2**64 - 1, 20, 21, 516, 8, 5940)
     yield lent(2**62 + 8, 20, 21, 32, 8, 5940)
     # 31 words for L = 8, 511 for L = 128.
-    yield lent(8, 20, 21, 31, 8, 370)
-    yield lent(128, 20, 21, 511, 8, 5890)
+    yield lent(8, 20, 21, 31, 8, asked(8))
+    yield lent(128, 20, 21, 511, 8, asked(128))
     # Tables and y too short and too long.
-    yield lent(8, 19, 21, 32, 8, 370)
-    yield lent(8, 21, 21, 32, 8, 370)
-    yield lent(8, 20, 20, 32, 8, 370)
-    yield lent(8, 20, 22, 32, 8, 370)
-    yield lent(8, 20, 21, 32, 7, 370)
-    yield lent(8, 20, 21, 32, 9, 370)
+    yield lent(8, 19, 21, 32, 8, asked(8))
+    yield lent(8, 21, 21, 32, 8, asked(8))
+    yield lent(8, 20, 20, 32, 8, asked(8))
+    yield lent(8, 20, 22, 32, 8, asked(8))
+    yield lent(8, 20, 21, 32, 7, asked(8))
+    yield lent(8, 20, 21, 32, 9, asked(8))
     # Of two refusals the first is given: 2 before 5, 3 before 4, 4 before 5, 5 before 7 and 8, 7 before 8, 2 before all but 1, 1 before
     # all.
-    yield lent(7, 19, 21, 32, 8, 370)
+    yield lent(7, 19, 21, 32, 8, asked(8))
     yield row(cdt=changed(KNOWN, 1, ONE), polynomial=changed(POLYNOMIAL + [0], 19, 38))
     yield row(limit=7, polynomial=changed(POLYNOMIAL + [0], 19, 38))
     yield lent(129, 20, 21, 0, 8, 0)
-    yield lent(8, 20, 21, 31, 8, 369)
+    yield lent(8, 20, 21, 31, 8, asked(8) - 1)
     yield lent(8, 0, 0, 0, 0, 0)
     yield row(12, 7, MADE, lent=(0, 0, 0, 0, 0))
 
@@ -204,7 +213,7 @@ def refusal(n, limit, cdt, polynomial, words, y, entries):
         return 5
     if len(words) < 4 * limit:
         return 7
-    if entries < 46 * limit + 2:
+    if entries < asked(limit):
         return 8
     return 0
 

@@ -47,22 +47,22 @@ fn opening_serves_powers_of_two_alone() {
 fn a_full_draw_sets_drawn() {
     // Words of 0 give the sample 0, which is always accepted.
     let (drawn, y, list) = draw(Session::open(N).unwrap(), 0);
-    assert_eq!(drawn.answer, Ok(Counts { attempts: 8, accepted: 8, entries: 370 }));
+    assert_eq!(drawn.answer, Ok(Counts { attempts: 8, accepted: 8, entries: list_length(LIMIT) }));
     assert!(drawn.session.is_drawn());
     assert_eq!(y, [0; 8]);
-    assert_eq!(list[0], (1 << 24) + 4);
-    assert_eq!(list[369], (6 << 24) + 8);
+    assert_eq!(list.first(), Some(&((1 << 24) + 4)));
+    assert_eq!(list.last(), Some(&((6 << 24) + 8)));
 }
 
 #[test]
 fn a_spent_draw_clears_drawn() {
     // Words of all ones give the size 2815, which word 3 rejects.
     let (drawn, y, list) = draw(drawn_session(), u64::MAX);
-    assert_eq!(drawn.answer, Ok(Counts { attempts: 8, accepted: 0, entries: 370 }));
+    assert_eq!(drawn.answer, Ok(Counts { attempts: 8, accepted: 0, entries: list_length(LIMIT) }));
     assert!(!drawn.session.is_drawn());
     assert_eq!(drawn.session.degree(), N);
     assert_eq!(y, [0; 8]);
-    assert_eq!(list[369], 6 << 24);
+    assert_eq!(list.last(), Some(&(6 << 24)));
 }
 
 #[test]
@@ -71,7 +71,7 @@ fn a_response_after_a_spent_draw_is_refused() {
     let (refused, z, list) = respond(spent.session, &[1], &[1; 8]);
     assert_eq!(refused.answer, Err(Refusal::NotDrawn));
     assert_eq!(z, [5; 8]);
-    assert_eq!(list, [9; 55]);
+    assert_eq!(list, [9; respond_list_length(N, 1)]);
 }
 
 #[test]
@@ -79,7 +79,7 @@ fn the_largest_limit_is_served() {
     let words = [u64::MAX; word_count(32 * N)];
     let mut list = [9; list_length(32 * N)];
     let spent = Session::open(N).unwrap().draw(32 * N, &CDT, &POLYNOMIAL, &words, &mut [1; 8], &mut list);
-    assert_eq!(spent.answer, Ok(Counts { attempts: 128, accepted: 0, entries: 5890 }));
+    assert_eq!(spent.answer, Ok(Counts { attempts: 128, accepted: 0, entries: list_length(32 * N) }));
 }
 
 #[test]
@@ -92,7 +92,7 @@ fn a_refused_draw_hands_the_session_back() {
     assert!(refused.session.is_drawn());
     assert_eq!(refused.session.degree(), N);
     assert_eq!(y, [1; 8]);
-    assert_eq!(list, [9; 370]);
+    assert_eq!(list, [9; list_length(LIMIT)]);
 
     let served = refused.session.draw(LIMIT, &CDT, &POLYNOMIAL, &words, &mut y, &mut list);
     assert!(served.answer.is_ok());
@@ -110,24 +110,25 @@ fn each_refusal_of_a_draw_is_typed() {
         let session = Session::open(N).unwrap();
         session.draw(limit, cdt, polynomial, &words, &mut [0; 8], &mut list).answer.unwrap_err()
     };
-    assert_eq!(refusal(8, &CDT[..19], &POLYNOMIAL, 32, 370), Refusal::Lengths);
-    assert_eq!(refusal(8, &falling, &POLYNOMIAL, 32, 370), Refusal::Cdt);
-    assert_eq!(refusal(8, &CDT, &damaged, 32, 370), Refusal::Polynomial);
-    assert_eq!(refusal(7, &CDT, &POLYNOMIAL, 32, 370), Refusal::Limit);
-    assert_eq!(refusal(129, &CDT, &POLYNOMIAL, 516, 5936), Refusal::Limit);
-    assert_eq!(refusal(8, &CDT, &POLYNOMIAL, 31, 370), Refusal::Words);
-    assert_eq!(refusal(8, &CDT, &POLYNOMIAL, 32, 369), Refusal::List);
+    let (words, entries) = (word_count(LIMIT), list_length(LIMIT));
+    assert_eq!(refusal(8, &CDT[..19], &POLYNOMIAL, words, entries), Refusal::Lengths);
+    assert_eq!(refusal(8, &falling, &POLYNOMIAL, words, entries), Refusal::Cdt);
+    assert_eq!(refusal(8, &CDT, &damaged, words, entries), Refusal::Polynomial);
+    assert_eq!(refusal(7, &CDT, &POLYNOMIAL, words, entries), Refusal::Limit);
+    assert_eq!(refusal(129, &CDT, &POLYNOMIAL, word_count(129), list_length(129)), Refusal::Limit);
+    assert_eq!(refusal(8, &CDT, &POLYNOMIAL, words - 1, entries), Refusal::Words);
+    assert_eq!(refusal(8, &CDT, &POLYNOMIAL, words, entries - 1), Refusal::List);
 }
 
 #[test]
 fn an_accepted_response_clears_drawn() {
     let (responded, z, list) = respond(drawn_session(), &[1], &[1, 2, 3, 4, 0, 0, 0, 7]);
-    assert_eq!(responded.answer, Ok(Outcome { bit: true, entries: 55 }));
+    assert_eq!(responded.answer, Ok(Outcome { bit: true, entries: respond_list_length(N, 1) }));
     assert!(!responded.session.is_drawn());
     assert_eq!(responded.session.degree(), N);
     assert_eq!(z, [-4, 1, 2, 3, -7, 0, 0, 0]);
     assert_eq!(list[..5], [(7 << 24) + 4, (8 << 24) + 3, 8 << 24, (8 << 24) + 1, (8 << 24) + 2]);
-    assert_eq!(list[54], (9 << 24) + 1);
+    assert_eq!(list.last(), Some(&((9 << 24) + 1)));
 
     let (refused, ..) = respond(responded.session, &[1], &[0; 8]);
     assert_eq!(refused.answer, Err(Refusal::NotDrawn));
@@ -142,10 +143,10 @@ fn a_rejected_response_leaves_nothing() {
     let mut list = [9; respond_list_length(N, 2)];
     let words = [0, u64::MAX, 0];
     let rejected = drawn_session().respond(&[0, 3], &POLYNOMIAL, &words, &[1; 8], &mut y, &mut z, &mut list);
-    assert_eq!(rejected.answer, Ok(Outcome { bit: false, entries: 63 }));
+    assert_eq!(rejected.answer, Ok(Outcome { bit: false, entries: respond_list_length(N, 2) }));
     assert!(!rejected.session.is_drawn());
     assert_eq!((y, z), ([0; 8], [0; 8]));
-    assert_eq!(list[62], 9 << 24);
+    assert_eq!(list.last(), Some(&(9 << 24)));
 }
 
 #[test]
@@ -161,10 +162,10 @@ fn a_refused_response_hands_the_session_back() {
     assert_eq!(refused.answer, Err(Refusal::Challenge));
     assert!(refused.session.is_drawn());
     assert_eq!(z, [5; 8]);
-    assert_eq!(list, [9; 63]);
+    assert_eq!(list, [9; respond_list_length(N, 2)]);
 
     let (served, ..) = respond(refused.session, &[2], &[0; 8]);
-    assert_eq!(served.answer, Ok(Outcome { bit: true, entries: 55 }));
+    assert_eq!(served.answer, Ok(Outcome { bit: true, entries: respond_list_length(N, 1) }));
 }
 
 #[test]
@@ -177,13 +178,14 @@ fn each_refusal_of_a_response_is_typed() {
         let mut z = [0; 8];
         drawn_session().respond(challenge, polynomial, &words, &[key; 8], &mut [y; 8], &mut z, &mut list).answer.unwrap_err()
     };
-    assert_eq!(refusal(&POLYNOMIAL[..20], &[1], 3, 55, 7, 2815), Refusal::Lengths);
-    assert_eq!(refusal(&damaged, &[1], 3, 55, 7, 2815), Refusal::Polynomial);
-    assert_eq!(refusal(&POLYNOMIAL, &[4], 3, 55, 7, 2815), Refusal::Challenge);
-    assert_eq!(refusal(&POLYNOMIAL, &[1], 2, 55, 7, 2815), Refusal::Words);
-    assert_eq!(refusal(&POLYNOMIAL, &[1], 3, 54, 7, 2815), Refusal::List);
-    assert_eq!(refusal(&POLYNOMIAL, &[1], 3, 55, 8, 2815), Refusal::Key);
-    assert_eq!(refusal(&POLYNOMIAL, &[1], 3, 55, -7, -2816), Refusal::Y);
+    let (words, entries) = (RESPOND_WORDS, respond_list_length(N, 1));
+    assert_eq!(refusal(&POLYNOMIAL[..20], &[1], words, entries, 7, 2815), Refusal::Lengths);
+    assert_eq!(refusal(&damaged, &[1], words, entries, 7, 2815), Refusal::Polynomial);
+    assert_eq!(refusal(&POLYNOMIAL, &[4], words, entries, 7, 2815), Refusal::Challenge);
+    assert_eq!(refusal(&POLYNOMIAL, &[1], words - 1, entries, 7, 2815), Refusal::Words);
+    assert_eq!(refusal(&POLYNOMIAL, &[1], words, entries - 1, 7, 2815), Refusal::List);
+    assert_eq!(refusal(&POLYNOMIAL, &[1], words, entries, 8, 2815), Refusal::Key);
+    assert_eq!(refusal(&POLYNOMIAL, &[1], words, entries, -7, -2816), Refusal::Y);
 }
 
 #[test]
@@ -193,7 +195,7 @@ fn empty_slices_are_refused_and_not_read() {
     assert_eq!(drawn.answer, Err(Refusal::Lengths));
     let drawn = drawn.session.draw(LIMIT, &CDT, &POLYNOMIAL, &[], &mut [0; 8], &mut []);
     assert_eq!(drawn.answer, Err(Refusal::Words));
-    let drawn = drawn.session.draw(LIMIT, &CDT, &POLYNOMIAL, &[0; 32], &mut [0; 8], &mut []);
+    let drawn = drawn.session.draw(LIMIT, &CDT, &POLYNOMIAL, &[0; word_count(LIMIT)], &mut [0; 8], &mut []);
     assert_eq!(drawn.answer, Err(Refusal::List));
 
     let empty = drawn_session().respond(&[], &[], &[], &[], &mut [], &mut [], &mut []);
@@ -205,7 +207,7 @@ fn empty_slices_are_refused_and_not_read() {
     assert_eq!(empty.answer, Err(Refusal::Challenge));
     let empty = respond(empty.session, &[1], &[]);
     assert_eq!(empty.answer, Err(Refusal::Words));
-    let empty = respond(empty.session, &[1], &[0; 3]);
+    let empty = respond(empty.session, &[1], &[0; RESPOND_WORDS]);
     assert_eq!(empty.answer, Err(Refusal::List));
     assert!(empty.session.is_drawn());
 }
@@ -325,6 +327,6 @@ fn refusals_carry_their_number() {
 #[test]
 fn the_tables_are_those_of_document_01() {
     assert_eq!([POLYNOMIAL[0], POLYNOMIAL[1], POLYNOMIAL[19], POLYNOMIAL[20]], [1 << 62, 1 << 62, 37, 1]);
-    assert_eq!([sample_count(4), word_count(128), list_length(128)], [8, 512, 5890]);
-    assert_eq!([challenge_limit(4), challenge_limit(1024), respond_list_length(4, 1)], [4, 64, 55]);
+    assert_eq!([sample_count(4), word_count(128), list_length(8), list_length(128)], [8, 512, 370, 5890]);
+    assert_eq!([challenge_limit(4), challenge_limit(1024), RESPOND_WORDS, respond_list_length(4, 1)], [4, 64, 3, 55]);
 }

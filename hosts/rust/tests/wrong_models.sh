@@ -41,7 +41,8 @@ differences() {
     sed -n 's/^.*, \([^,]*\): differs from the model.*/\1/p' "$scratch/log" | sort -u
 }
 
-# wrong NAME RIGHT WRONG: the text RIGHT, which the file $part of the model has exactly once, becomes WRONG.
+# wrong NAME RIGHT WRONG: the text RIGHT, which the file $part of the model has exactly once, becomes WRONG. The
+# model must not panic by it, with an index out of range for instance: a panic hides in what the model would differ.
 wrong() {
     python3 - "$package/tests/model/$part" "$scratch/tests/model/$part" "$2" "$3" <<'END'
 import sys
@@ -57,6 +58,7 @@ END
         unnoticed=$((unnoticed + 1))
         echo "NOT NOTICED: $1"
     else
+        ! grep -q 'panicked at tests/model/' "$scratch/log" || fail "$1: the wrong model panics"
         differing=$(differences | paste -sd , - | sed 's/,/, /g')
         [ -n "$differing" ] || fail "$1: it failed, but not in a comparison"
         echo "$1: noticed in $differing"
@@ -68,6 +70,24 @@ END
 wrong_by_values() {
     wrong "$@"
     differences | grep -qvxE 'the entries|the list' || fail "$1: nothing but the read list shows it"
+}
+
+# wrong_by_padding CALL: two that serve a draw, or a respond call, whose words or list are one short.
+wrong_by_padding() {
+    wrong 'one word too few is served' "let refusal = refusal_of_$1(call);" \
+        "let mut padded = call.clone();
+         padded.words.push(0);
+         let call = &padded;
+         let refusal = refusal_of_$1(call);"
+    wrong 'one entry too few is served' "let refusal = refusal_of_$1(call);" \
+        "let refusal = refusal_of_$1(call);
+         let mut padded = call.clone();
+         padded.list.push(0);
+         if refusal == 8 && refusal_of_$1(&padded) != 8 {
+             let mut after = $1(&padded);
+             after.list.pop();
+             return after;
+         }"
 }
 
 compare || fail "the right model is not the archive's"
@@ -115,7 +135,7 @@ wrong 'y stands on spent' 'vec![0; 2 * n]' 'call.y.clone()'
 wrong 'accepted samples stand on spent' 'vec![0; 2 * n]' \
     'samples.iter().copied().chain(vec![0; 2 * n - samples.len()]).collect()'
 wrong 'attempts counted up to the limit' 'attempts: attempts.len(),' 'attempts: call.limit,'
-wrong 'entries counted up to the limit' 'entries: entries.len()' 'entries: 46 * call.limit + 2'
+wrong 'entries counted up to the limit' 'entries: entries.len()' 'entries: list_asked(call.limit)'
 
 # Read list of a draw
 wrong 'kind 5 counts after the attempt' 'list_attempt(&mut entries, t, samples.len());' \
@@ -146,11 +166,11 @@ wrong 'refusals 5 and 4 in the other order' 'if call.polynomial != POLYNOMIAL {'
     'if limit < 2 * n || limit > 32 * n { return 5; }
      if call.polynomial != POLYNOMIAL {'
 wrong 'refusals 7 and 5 in the other order' 'if limit < 2 * n ||' \
-    'if call.words.len() / 4 < limit { return 7; }
+    'if call.words.len() < words_asked(limit) { return 7; }
      if limit < 2 * n ||'
-wrong 'refusals 7 and 8 in the other order' 'if call.words.len() < 4 * limit {' \
-    'if call.list.len() < 46 * limit + 2 { return 8; }
-     if call.words.len() < 4 * limit {'
+wrong 'refusals 7 and 8 in the other order' 'if call.words.len() <' \
+    'if call.list.len() < list_asked(limit) { return 8; }
+     if call.words.len() <'
 wrong 'equal thresholds are refused' 'threshold(cdt, i) < threshold(cdt, i - 1)' \
     'threshold(cdt, i) <= threshold(cdt, i - 1)'
 wrong 'low words may fall at equal high words' 'threshold(cdt, i) < threshold(cdt, i - 1)' 'cdt[2 * i] < cdt[2 * i - 2]'
@@ -160,9 +180,10 @@ wrong 'entry 20 of the polynomial table is not looked at' 'call.polynomial != PO
     'call.polynomial[..20] != POLYNOMIAL[..20]'
 wrong 'L = 2n is refused' 'limit < 2 * n' 'limit <= 2 * n'
 wrong 'L = 32n is refused' 'limit > 32 * n' 'limit >= 32 * n'
-wrong 'more words than 4L are refused' 'call.words.len() < 4 * limit' 'call.words.len() != 4 * limit'
-wrong 'one word too few is served' 'call.words.len() < 4 * limit' 'call.words.len() + 1 < 4 * limit'
-wrong 'a list one short is served' 'call.list.len() < 46 * limit + 2' 'call.list.len() < 46 * limit + 1'
+wrong 'more words than 4L are refused' 'call.words.len() < words_asked' 'call.words.len() != words_asked'
+wrong_by_padding draw
+wrong 'one word more is asked for' 'limit.saturating_mul(4)' 'limit.saturating_mul(4).saturating_add(1)'
+wrong 'one entry more is asked for' 'saturating_add(2)' 'saturating_add(3)'
 
 part=respond.rs
 
@@ -245,9 +266,10 @@ wrong 'position n is served' 'position as usize >= n' 'position as usize > n'
 wrong 'position n - 1 is refused' 'position as usize >= n' 'position as usize >= n - 1'
 wrong 'equal positions are served' 'position <= challenge[place - 1]' 'position < challenge[place - 1]'
 wrong 'positions may fall' 'position <= challenge[place - 1]' 'position == challenge[place - 1]'
-wrong 'more than three words are refused' 'call.words.len() < 3' 'call.words.len() != 3'
-wrong 'four words are asked for' 'call.words.len() < 3' 'call.words.len() < 4'
-wrong 'a list of one entry more is asked for' 'call.challenge.len() + 47' 'call.challenge.len() + 48'
+wrong 'more than three words are refused' 'call.words.len() < WORDS_ASKED' 'call.words.len() != WORDS_ASKED'
+wrong 'four words are asked for' 'call.words.len() < WORDS_ASKED' 'call.words.len() <= WORDS_ASKED'
+wrong_by_padding respond
+wrong 'one entry more is asked for' 'saturating_add(47)' 'saturating_add(48)'
 wrong 'a response with nothing drawn is served' '!call.session.drawn' 'false'
 wrong 'key value 8 is served' '(-7..=7)' '(-7..=8)'
 wrong 'key value -8 is served' '(-7..=7)' '(-8..=7)'
@@ -271,11 +293,11 @@ wrong 'refusals 6 and 4 in the other order' 'if call.polynomial != POLYNOMIAL {'
     'if !challenge_is_right(&call.challenge, n) { return 6; }
      if call.polynomial != POLYNOMIAL {'
 wrong 'refusals 7 and 6 in the other order' 'if !challenge_is_right(&call.challenge, n) {' \
-    'if call.words.len() < 2 + 1 { return 7; }
+    'if call.words.len() < WORDS_ASKED { return 7; }
      if !challenge_is_right(&call.challenge, n) {'
-wrong 'refusals 8 and 7 in the other order' 'if call.words.len() < 3 {' \
-    'if call.list.len() < 2 * n * call.challenge.len() + 40 + 7 { return 8; }
-     if call.words.len() < 3 {'
+wrong 'refusals 8 and 7 in the other order' 'if call.words.len() <' \
+    'if call.list.len() < list_asked(n, call.challenge.len()) { return 8; }
+     if call.words.len() <'
 wrong 'refusals 9 and 8 in the other order' 'if call.list.len() <' \
     'if call.session == (Session { degree: n, drawn: false }) { return 9; }
      if call.list.len() <'

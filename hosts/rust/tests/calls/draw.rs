@@ -1,7 +1,7 @@
 //! Draws.
 
 use super::{shorten, spoil_polynomial, top_bits, wrong_length, BOUND, FORGED_DEGREES};
-use crate::model::draw::{self, Attempt, Call};
+use crate::model::draw::{self, list_asked, words_asked, Attempt, Call};
 use crate::model::{Session, POLYNOMIAL};
 use crate::random::Random;
 
@@ -26,7 +26,7 @@ pub fn right(random: &mut Random, degree: usize) -> Call {
 pub fn with_limit(random: &mut Random, degree: usize, limit: usize) -> Call {
     let ordinary = random.one_in(4);
     let cdt = if ordinary { bliss_box::CDT.to_vec() } else { cdt(random) };
-    let words = if ordinary { any_words(random, 4 * limit) } else { words(random, limit, &cdt) };
+    let words = if ordinary { any_words(random, words_asked(limit)) } else { words(random, limit, &cdt) };
     Call {
         session: Session { degree, drawn: random.one_in(2) },
         limit,
@@ -34,7 +34,7 @@ pub fn with_limit(random: &mut Random, degree: usize, limit: usize) -> Call {
         polynomial: POLYNOMIAL.to_vec(),
         words,
         y: (0..2 * degree).map(|_| random.word() as i32).collect(),
-        list: (0..46 * limit + 2).map(|_| random.word() as u32).collect(),
+        list: (0..list_asked(limit)).map(|_| random.word() as u32).collect(),
     }
 }
 
@@ -64,8 +64,8 @@ fn meet_limit(random: &mut Random, call: &mut Call) {
     let limit = drawn.answer.attempts - usize::from(random.one_in(3));
     if limit >= 2 * call.session.degree {
         call.limit = limit;
-        call.words.truncate(4 * limit);
-        call.list.truncate(46 * limit + 2);
+        call.words.truncate(words_asked(limit));
+        call.list.truncate(list_asked(limit));
     }
 }
 
@@ -110,9 +110,9 @@ fn any_words(random: &mut Random, count: usize) -> Vec<u64> {
 fn words(random: &mut Random, limit: usize, cdt: &[u64]) -> Vec<u64> {
     let same = random.pick(&[0, u64::MAX, 3 << 62, 256]);
     match random.below(10) {
-        0 => vec![same; 4 * limit],
+        0 => vec![same; words_asked(limit)],
         1 => (0..limit).flat_map(|_| [0, 0, 256, random.word()]).collect(),
-        2..=4 => any_words(random, 4 * limit),
+        2..=4 => any_words(random, words_asked(limit)),
         _ => {
             let accepting = random.below(5);
             (0..limit).flat_map(|_| edge_words(random, cdt, accepting)).collect()
@@ -163,8 +163,8 @@ pub fn spoil(random: &mut Random, call: &mut Call, refusal: u32) -> bool {
         3 => spoil_cdt(random, &mut call.cdt),
         4 => spoil_polynomial(random, &mut call.polynomial),
         5 => return spoil_limit(random, call),
-        7 => return shorten(random, &mut call.words, call.limit.saturating_mul(4)),
-        8 => return shorten(random, &mut call.list, call.limit.saturating_mul(46).saturating_add(2)),
+        7 => return shorten(random, &mut call.words, words_asked(call.limit)),
+        8 => return shorten(random, &mut call.list, list_asked(call.limit)),
         _ => unreachable!("a draw has no refusal {refusal}"),
     }
     true
@@ -209,8 +209,8 @@ fn spoil_limit(random: &mut Random, call: &mut Call) -> bool {
     let least = (2 * degree).saturating_sub(1);
     call.limit = random.pick(&[0, least, 32 * degree + 1, 32 * degree + 1, 1 << 62, 1 << 63, usize::MAX]);
     if call.limit <= 32 * degree + 1 {
-        call.words.resize(4 * call.limit, 0);
-        call.list.resize(46 * call.limit + 2, 0);
+        call.words.resize(words_asked(call.limit), 0);
+        call.list.resize(list_asked(call.limit), 0);
     }
     call.limit < 2 * degree || call.limit > 32 * degree
 }

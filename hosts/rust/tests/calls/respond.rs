@@ -1,7 +1,7 @@
 //! Respond calls.
 
 use super::{shorten, spoil_polynomial, top_bits, wrong_length, BOUND, FORGED_DEGREES};
-use crate::model::respond::{product, Call, Response, PRODUCT_LIMIT, RESPONSE_LIMIT};
+use crate::model::respond::{list_asked, product, Call, Response, PRODUCT_LIMIT, RESPONSE_LIMIT, WORDS_ASKED};
 use crate::model::{Session, POLYNOMIAL};
 use crate::random::Random;
 
@@ -38,7 +38,7 @@ pub fn any(random: &mut Random) -> (Call, Vec<u32>) {
 
 fn assembled(random: &mut Random, degree: usize, challenge: Vec<u32>, key: Vec<i32>, y: Vec<i32>, minus: bool) -> Call {
     let mut words = words(random, &y, &product(&key, &challenge), minus).to_vec();
-    let mut list_length = entries(degree, &challenge);
+    let mut list_length = list_asked(degree, challenge.len());
     if random.one_in(2) {
         words.extend((0..random.below(9)).map(|_| random.word()));
         list_length += random.below(99);
@@ -53,11 +53,6 @@ fn assembled(random: &mut Random, degree: usize, challenge: Vec<u32>, key: Vec<i
         z: (0..2 * degree).map(|_| random.word() as i32).collect(),
         list: (0..list_length).map(|_| random.word() as u32).collect(),
     }
-}
-
-/// The entries that a list must have.
-fn entries(degree: usize, challenge: &[u32]) -> usize {
-    degree.saturating_mul(2 * challenge.len()).saturating_add(47)
 }
 
 /// A right challenge: of one position, of as many as may be, or of any length between.
@@ -224,7 +219,7 @@ fn y_of_squares(random: &mut Random, product: &[i128], minus: bool, target: i64)
 }
 
 /// The three words, at the edges of what decides the response.
-fn words(random: &mut Random, y: &[i32], product: &[i128], minus: bool) -> [u64; 3] {
+fn words(random: &mut Random, y: &[i32], product: &[i128], minus: bool) -> [u64; WORDS_ASKED] {
     let any = random.word();
     let first = random.pick(&[0, 0, any << 1, u64::MAX - 1]) + u64::from(minus);
     let response = Response::of(y, product, [first, 0, 0]);
@@ -252,8 +247,8 @@ pub fn spoil(random: &mut Random, call: &mut Call, refusal: u32) -> bool {
         2 => spoil_lengths(random, call),
         4 => spoil_polynomial(random, &mut call.polynomial),
         6 => spoil_challenge(random, call),
-        7 => return shorten(random, &mut call.words, 3),
-        8 => return shorten(random, &mut call.list, entries(call.session.degree, &call.challenge)),
+        7 => return shorten(random, &mut call.words, WORDS_ASKED),
+        8 => return shorten(random, &mut call.list, list_asked(call.session.degree, call.challenge.len())),
         9 => call.session.drawn = false,
         10 => return spoil_values(random, &mut call.key, GREATEST_KEY),
         11 => return spoil_values(random, &mut call.y, GREATEST_Y),
@@ -299,7 +294,7 @@ fn spoil_challenge(random: &mut Random, call: &mut Call) {
         (4 | 5, _) => *challenge = (0..=degree.min(64)).collect(),
         _ => challenge.clear(),
     }
-    let least = entries(call.session.degree, &call.challenge);
+    let least = list_asked(call.session.degree, call.challenge.len());
     call.list.resize(least.max(call.list.len()), 0);
 }
 

@@ -1,7 +1,7 @@
 //! What draws came across.
 
 use super::{at_degree, Coverage, TOP_BITS};
-use crate::model::draw::{threshold, Attempt, Call, Drawn};
+use crate::model::draw::{list_asked, threshold, words_asked, Attempt, Call, Drawn};
 
 /// The refusals of a draw.
 pub const REFUSALS: [u32; 7] = [1, 2, 3, 4, 5, 7, 8];
@@ -33,8 +33,11 @@ impl Made<'_> {
 impl Coverage {
     /// Counts a draw that was compared.
     pub fn count_draw(&mut self, call: &Call, drawn: &Drawn) {
-        self.count_call(call.session, drawn.answer.refusal);
-        if drawn.answer.refusal == 0 {
+        let refusal = drawn.answer.refusal;
+        self.count_call(call.session, refusal);
+        self.count_lent("words", call.words.len(), words_asked(call.limit), refusal, 7);
+        self.count_lent("list entries", call.list.len(), list_asked(call.limit), refusal, 8);
+        if refusal == 0 {
             let thresholds: Vec<u128> = (0..10).map(|i| threshold(&call.cdt, i)).collect();
             let made = Made { attempts: call.words.chunks(4).zip(&drawn.attempts).collect() };
             self.count_full_or_spent(call, drawn);
@@ -58,10 +61,6 @@ impl Coverage {
         self.see("spent, limit 2n", !full && call.limit == 2 * n);
         self.see("spent, limit 32n", !full && call.limit == 32 * n);
         self.see("spent, y drawn before", !full && call.session.drawn);
-        self.see("just 4L words", call.words.len() == 4 * call.limit);
-        self.see("one word more than 4L", call.words.len() == 4 * call.limit + 1);
-        self.see("list of just 46L + 2", call.list.len() == 46 * call.limit + 2);
-        self.see("list of one entry more than 46L + 2", call.list.len() == 46 * call.limit + 3);
     }
 
     fn count_table(&mut self, thresholds: &[u128]) {

@@ -41,6 +41,13 @@ impl Coverage {
         }
     }
 
+    /// Counts how many words or list entries were lent, of those that a call asks for. Fewer are refused by `fewer`.
+    fn count_lent(&mut self, what: &str, lent: usize, asked: usize, refusal: u32, fewer: u32) {
+        self.see(format!("{what}: just as many as asked for"), refusal == 0 && lent == asked);
+        self.see(format!("{what}: one more than asked for"), refusal == 0 && lent == asked + 1);
+        self.see(format!("{what}: one less than asked for, {}", refused(fewer)), refusal == fewer && lent + 1 == asked);
+    }
+
     /// Counts the reasons for which a call could be refused, of the refusals that it has. The first in order refuses it.
     pub fn count_reasons(&mut self, reasons: &[u32], refusals: &[u32]) {
         if let Some(&first) = reasons.iter().min() {

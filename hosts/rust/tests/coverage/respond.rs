@@ -2,7 +2,7 @@
 
 use super::{at_degree, Coverage, TOP_BITS};
 use crate::calls::respond::{GREATEST_KEY, GREATEST_Y};
-use crate::model::respond::{Call, Responded, Response, PRODUCT_LIMIT, RESPONSE_LIMIT};
+use crate::model::respond::{list_asked, Call, Responded, Response, PRODUCT_LIMIT, RESPONSE_LIMIT, WORDS_ASKED};
 
 /// The refusals of a respond call.
 pub const REFUSALS: [u32; 9] = [1, 2, 4, 6, 7, 8, 9, 10, 11];
@@ -16,27 +16,32 @@ const BY_COSH: [bool; 4] = [true, true, true, false];
 impl Coverage {
     /// Counts a respond call that was compared.
     pub fn count_respond(&mut self, call: &Call, responded: &Responded) {
-        self.count_call(call.session, responded.answer.refusal);
+        let refusal = responded.answer.refusal;
+        let least = list_asked(call.session.degree, call.challenge.len());
+        self.count_call(call.session, refusal);
+        self.count_lent("words", call.words.len(), WORDS_ASKED, refusal, 7);
+        self.count_lent("list entries", call.list.len(), least, refusal, 8);
         if let Some(response) = &responded.response {
             self.count(at_degree(if response.bit() { "accepted" } else { "rejected" }, call.session.degree), 1);
-            self.count_lent(call);
+            self.count_values(call);
             self.count_sums(call, response);
             self.count_accepted(call, response);
             self.count_rejected(response);
             self.count_edges_of_words(call, response);
         }
-        if responded.answer.refusal == 6 {
+        if refusal == 6 {
             self.count_wrong_challenge(call);
         }
-        if responded.answer.refusal == 10 {
+        if refusal == 10 {
             self.count_places("refusal 10", &call.key, GREATEST_KEY);
         }
-        if responded.answer.refusal == 11 {
+        if refusal == 11 {
             self.count_places("refusal 11", &call.y, GREATEST_Y);
         }
     }
 
-    fn count_lent(&mut self, call: &Call) {
+    /// The challenge, the key and y at their ends.
+    fn count_values(&mut self, call: &Call) {
         let n = call.session.degree;
         let positions = call.challenge.len();
         let greatest = |values: &[i32], bound: i32| values.iter().all(|value| value.abs() == bound);
@@ -51,11 +56,6 @@ impl Coverage {
         self.see("64 positions, key at 7", greatest_key && one_sign(&call.key) && call.key[0] > 0);
         self.see("64 positions, key at -7", greatest_key && one_sign(&call.key) && call.key[0] < 0);
         self.see("y at -2,815 and 2,815", greatest(&call.y, GREATEST_Y) && !one_sign(&call.y));
-        self.see("just 3 words", call.words.len() == 3);
-        self.see("4 words", call.words.len() == 4);
-        let least = 2 * n * positions + 47;
-        self.see("list of just 2n × length + 47", call.list.len() == least);
-        self.see("list of one entry more", call.list.len() == least + 1);
     }
 
     /// A, Z and I at their edges.

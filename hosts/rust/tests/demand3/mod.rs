@@ -11,6 +11,7 @@ use std::hash::{Hash, Hasher};
 
 use crate::comparison::Comparison;
 use crate::coverage::{at_degree, at_every_degree, Coverage};
+use crate::model::respond::WORDS_ASKED;
 use crate::random::Random;
 use crate::run;
 use history::{history, neighbours, Event, History, DIFFERENCES};
@@ -125,7 +126,8 @@ fn count_what_differs(coverage: &mut Coverage, steps: &[Step], others: &[Step]) 
                 coverage.see("equal histories, other limit", call.limit != other.limit);
             }
             (Call::Respond(call), Call::Respond(other)) => {
-                coverage.see("equal histories, other words of a response", call.words[..3] != other.words[..3]);
+                let differ = call.words[..WORDS_ASKED] != other.words[..WORDS_ASKED];
+                coverage.see("equal histories, other words of a response", differ);
                 coverage.see("equal histories, other key", call.key != other.key);
                 coverage.see("equal histories, other noise", call.y != other.y);
             }
@@ -181,18 +183,15 @@ pub fn what_is_not_listed_decides_nothing(comparison: &Comparison) {
 
 /// What a call and its counterpart are lent that is not listed, and differs.
 fn count_what_is_free(coverage: &mut Coverage, step: &Step, given: &Given, counterpart: &Step) {
+    let read = listed(&given.entries, WORD).len();
+    let behind = |words: &[u64], others: &[u64]| read < words.len() && words[read..] != others[read..];
     match (&step.call, &counterpart.call) {
         (Call::Draw(call), Call::Draw(other)) => {
-            let read = listed(&given.entries, WORD).len();
-            coverage.see(
-                "words behind those that a draw read",
-                read < call.words.len() && call.words[read..] != other.words[read..],
-            );
+            coverage.see("words behind those that a draw read", behind(&call.words, &other.words));
             coverage.see("list of another length", call.list.len() != other.list.len());
         }
         (Call::Respond(call), Call::Respond(other)) => {
-            coverage
-                .see("words behind those that a response read", call.words.len() > 3 && call.words[3..] != other.words[3..]);
+            coverage.see("words behind those that a response read", behind(&call.words, &other.words));
             coverage.see("another z before a response", call.z != other.z);
         }
         _ => panic!("a counterpart of another kind"),

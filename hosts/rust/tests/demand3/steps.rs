@@ -100,8 +100,8 @@ fn draw_of(random: &mut Random, session: Session, bits: &[bool]) -> (draw::Call,
     let limit = if full { (bits.len() + random.below(2 * degree)).min(32 * degree) } else { bits.len() };
     let mut call =
         draw::Call { session, limit, cdt, polynomial: POLYNOMIAL.to_vec(), words, y: vec![0; 2 * degree], list: Vec::new() };
-    call.words.resize_with(4 * limit + random.below(3), || random.word());
-    call.list.resize_with(46 * limit + 2 + random.below(3), || random.word() as u32);
+    call.words.resize_with(draw::words_asked(limit) + random.below(3), || random.word());
+    call.list.resize_with(draw::list_asked(limit) + random.below(3), || random.word() as u32);
     let drawn = draw::draw(&call);
     let given: Vec<bool> = drawn.attempts.iter().map(Attempt::accepted).collect();
     assert_eq!(given, bits, "a draw with other accept bits than were chosen");

@@ -3,7 +3,7 @@
 use crate::calls::{self, DEGREES};
 use crate::comparison::Comparison;
 use crate::coverage::{at_every_degree, every_refusal, Coverage, DRAW_REFUSALS};
-use crate::model::draw::Call;
+use crate::model::draw::{list_asked, words_asked, Call};
 use crate::random::Random;
 use crate::run::{self, DEFAULT_SEED};
 
@@ -74,10 +74,10 @@ fn spoilt_in_one_place(right: &Call) -> Vec<(String, Call)> {
     for limit in [0, 2 * n - 1, 32 * n + 1, 1 << 62, 1 << 63, usize::MAX] {
         add(format!("limit {limit}"), &|call| call.limit = limit);
     }
-    for length in [0, 4 * right.limit - 1] {
+    for length in [0, words_asked(right.limit) - 1] {
         add(format!("{length} words"), &|call| call.words.truncate(length));
     }
-    for length in [0, 46 * right.limit + 1] {
+    for length in [0, list_asked(right.limit) - 1] {
         add(format!("list of {length}"), &|call| call.list.truncate(length));
     }
     add("all slices empty".into(), &|call| *call = with_nothing_lent(call));

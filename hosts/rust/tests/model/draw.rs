@@ -101,6 +101,16 @@ fn cdt_is_right(cdt: &[u64]) -> bool {
     true
 }
 
+/// The words that a draw asks for, or usize::MAX where they would be more.
+pub fn words_asked(limit: usize) -> usize {
+    limit.saturating_mul(4)
+}
+
+/// The list entries that a draw asks for, or usize::MAX where they would be more.
+pub fn list_asked(limit: usize) -> usize {
+    limit.saturating_mul(46).saturating_add(2)
+}
+
 /// The first refusal that applies to a draw, or 0.
 fn refusal_of_draw(call: &Call) -> u32 {
     let n = call.session.degree;
@@ -120,10 +130,10 @@ fn refusal_of_draw(call: &Call) -> u32 {
     if limit < 2 * n || limit > 32 * n {
         return 5;
     }
-    if call.words.len() < 4 * limit {
+    if call.words.len() < words_asked(limit) {
         return 7;
     }
-    if call.list.len() < 46 * limit + 2 {
+    if call.list.len() < list_asked(limit) {
         return 8;
     }
     0

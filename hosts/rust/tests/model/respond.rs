@@ -10,6 +10,9 @@ pub const PRODUCT_LIMIT: u128 = 46_225;
 /// The largest Z of a response that is not rejected.
 pub const RESPONSE_LIMIT: u128 = 165_688_384;
 
+/// The words that a response asks for.
+pub const WORDS_ASKED: usize = 3;
+
 /// What a respond call takes and is lent.
 #[derive(Clone, Debug)]
 pub struct Call {
@@ -118,7 +121,7 @@ pub struct Response {
 }
 
 impl Response {
-    pub fn of(y: &[i32], product: &[i128], words: [u64; 3]) -> Response {
+    pub fn of(y: &[i32], product: &[i128], words: [u64; WORDS_ASKED]) -> Response {
         let minus = words[0] % 2 == 1;
         let mut z = Vec::new();
         for i in 0..y.len() {
@@ -166,6 +169,11 @@ fn challenge_is_right(challenge: &[u32], n: usize) -> bool {
     true
 }
 
+/// The list entries that a response to so many positions asks for, or usize::MAX where they would be more.
+pub fn list_asked(degree: usize, positions: usize) -> usize {
+    degree.saturating_mul(2 * positions).saturating_add(47)
+}
+
 /// The first refusal that applies to a respond call, or 0.
 fn refusal_of_respond(call: &Call) -> u32 {
     let n = call.session.degree;
@@ -181,10 +189,10 @@ fn refusal_of_respond(call: &Call) -> u32 {
     if !challenge_is_right(&call.challenge, n) {
         return 6;
     }
-    if call.words.len() < 3 {
+    if call.words.len() < WORDS_ASKED {
         return 7;
     }
-    if call.list.len() < 2 * n * call.challenge.len() + 47 {
+    if call.list.len() < list_asked(n, call.challenge.len()) {
         return 8;
     }
     if !call.session.drawn {
@@ -220,7 +228,7 @@ fn entries_of(n: usize, challenge: &[u32], bit: bool) -> Vec<u32> {
             }
         }
     }
-    for place in 0..3 {
+    for place in 0..WORDS_ASKED {
         entries.push(entry(2, place));
     }
     list_polynomial(&mut entries);

@@ -4,7 +4,7 @@ use crate::calls::respond::{GREATEST_KEY, GREATEST_Y};
 use crate::calls::{self, DEGREES};
 use crate::comparison::Comparison;
 use crate::coverage::{at_every_degree, every_refusal, Coverage, RESPOND_REFUSALS};
-use crate::model::respond::{product, Call, Responded, Response};
+use crate::model::respond::{list_asked, product, Call, Responded, Response, WORDS_ASKED};
 use crate::model::{Session, POLYNOMIAL};
 use crate::random::Random;
 use crate::run::{self, DEFAULT_SEED};
@@ -30,11 +30,11 @@ fn plain(degree: usize, key: Vec<i32>, y: Vec<i32>) -> Call {
         session: Session { degree, drawn: true },
         challenge: vec![0],
         polynomial: POLYNOMIAL.to_vec(),
-        words: vec![0; 3],
+        words: vec![0; WORDS_ASKED],
         key,
         y,
         z: vec![-1; 2 * degree],
-        list: vec![9; 2 * degree + 47],
+        list: vec![9; list_asked(degree, 1)],
     }
 }
 
@@ -127,7 +127,7 @@ fn changed(right: &Call, change: impl Fn(&mut Call)) -> Call {
 fn with_challenge(right: &Call, challenge: &[u32]) -> (String, Call) {
     let call = changed(right, |call| {
         call.challenge = challenge.to_vec();
-        call.list.resize(2 * call.session.degree * challenge.len() + 47, 0);
+        call.list.resize(list_asked(call.session.degree, challenge.len()), 0);
     });
     (format!("challenge {challenge:?}"), call)
 }
@@ -157,10 +157,11 @@ fn served_at_an_end(right: &Call) -> Vec<(String, Call)> {
             served.push((format!("y value {place} at {value}"), changed(right, |call| call.y[place] = value)));
         }
     }
-    for length in [2 * n + 47, 2 * n + 48] {
+    let least = list_asked(n, right.challenge.len());
+    for length in [least, least + 1] {
         served.push((format!("list of {length}"), changed(right, |call| call.list.resize(length, 0))));
     }
-    for length in [3, 4] {
+    for length in [WORDS_ASKED, WORDS_ASKED + 1] {
         served.push((format!("{length} words"), changed(right, |call| call.words.resize(length, 0))));
     }
     served
@@ -185,10 +186,10 @@ fn spoilt_in_one_place(right: &Call) -> Vec<(String, Call)> {
         add(format!("z of {length}"), &|call| call.z.resize(length, 0));
         add(format!("key of {length}"), &|call| call.key.resize(length, 0));
     }
-    for length in [0, 2] {
+    for length in [0, WORDS_ASKED - 1] {
         add(format!("{length} words"), &|call| call.words.truncate(length));
     }
-    for length in [0, 2 * n + 46] {
+    for length in [0, list_asked(n, right.challenge.len()) - 1] {
         add(format!("list of {length}"), &|call| call.list.truncate(length));
     }
     for place in places(n) {
