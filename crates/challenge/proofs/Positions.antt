@@ -7,16 +7,16 @@ use lib.Dec.{leb, ltb}
 use lib.ListN.{length, getD}
 use borrow.Author.Tests.{leb-true, ltb-true}
 use Rattle.checks.proofs.Laws.{both-true, all-at}
-use Rattle.challenge.specs.Challenge.{lengthFits, positionsBelow, ascends, isChallenge}
+use Rattle.challenge.specs.Challenge.{lengthFits, positionsBelow, ascends, arePositions, isChallenge}
 
 pub record Challenge (n : ℕ) (challenge : List ℕ) : Type 0 where
   pub few : length challenge ≤ 64
   pub below : positionsBelow n challenge ≡ true
 
 pub challenge-of : (n : ℕ) (challenge : List ℕ) → isChallenge n challenge ≡ true → Challenge n challenge
-unfolding isChallenge
+unfolding isChallenge arePositions
 challenge-of n challenge h =
-    let fits = both-true (lengthFits n (length challenge)) _ (both-true (ltb 0 (length challenge)) _ h .1) in
+    let fits = both-true (lengthFits n (length challenge)) _ (both-true (ltb 0 (length challenge)) (arePositions n challenge) h .1) in
     record {
       few = leb-true (length challenge) 64 (both-true (leb (length challenge) 64) (leb (length challenge) n) (fits .0) .0);
       below = both-true (positionsBelow n challenge) (ascends challenge) (fits .1) .0;

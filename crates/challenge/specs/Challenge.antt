@@ -22,6 +22,10 @@ positionsBelow n challenge = allBelow (λ (k : ℕ). ltb (getD challenge k 0) n)
 unfoldable pub ascends : (challenge : List ℕ) → Bool
 ascends challenge = allBelow (λ (k : ℕ). ltb (getD challenge k 0) (getD challenge (suc k) 0)) (length challenge - 1)
 
--- whether positions are a challenge at degree n: there is one, there are not too many, each is below n, and they ascend
+-- whether numbers can be the positions of a challenge at degree n: there are not too many, each is below n, and they ascend
+unfoldable pub arePositions : (n : ℕ) (challenge : List ℕ) → Bool
+arePositions n challenge = lengthFits n (length challenge) && (positionsBelow n challenge && ascends challenge)
+
+-- whether they are a challenge: there is one
 unfoldable pub isChallenge : (n : ℕ) (challenge : List ℕ) → Bool
-isChallenge n challenge = ltb 0 (length challenge) && (lengthFits n (length challenge) && (positionsBelow n challenge && ascends challenge))
+isChallenge n challenge = ltb 0 (length challenge) && arePositions n challenge

@@ -6,7 +6,7 @@ ghost use lib.ListN.{length, set};
 ghost use lib.Seq.{sets};
 ghost use Rattle.signed.specs.Vectors.{allWithin, squareSum};
 ghost use Rattle.read_list.specs.Entries.{entry};
-ghost use Rattle.challenge.specs.Challenge.{positionsBelow, ascends, isChallenge};
+ghost use Rattle.challenge.specs.Challenge.{positionsBelow, ascends, arePositions, isChallenge};
 ghost use Rattle.challenge.specs.Product.{keyBound, indexOf, termAt, outputAt, outputsFrom, product, Factors, outputEntries, outputEntriesFrom, productEntries};
 
 // The size of a key value at most.
@@ -43,16 +43,24 @@ fn ascending(challenge: &[u32]) -> bool
     true
 }
 
-// Whether positions are a challenge at degree n.
-pub fn is_challenge(n: usize, challenge: &[u32]) -> bool
-    ensures { λ r. ⌜ r ≡ isChallenge n (now (challenge .entry)) ⌝ }
+// Whether numbers can be the positions of a challenge at degree n.
+fn are_positions(n: usize, challenge: &[u32]) -> bool
+    ensures { λ r. ⌜ r ≡ arePositions n (now (challenge .entry)) ⌝ }
 {
     let length = challenge.len();
-    if (length == 0) | (MOST_POSITIONS < length) | (n < length) {
+    if (MOST_POSITIONS < length) | (n < length) {
         return false;
     }
     let below = positions_below(n, challenge);
     below & ascending(challenge)
+}
+
+// Whether positions are a challenge at degree n.
+pub fn is_challenge(n: usize, challenge: &[u32]) -> bool
+    ensures { λ r. ⌜ r ≡ isChallenge n (now (challenge .entry)) ⌝ }
+{
+    let positions = are_positions(n, challenge);
+    (challenge.len() != 0) & positions
 }
 
 // What the position c adds to output i of the half that starts at `base`. The read of the key is listed at the index `at` of a list.

@@ -19,11 +19,11 @@ use Rattle.base_sample.specs.BaseSample.{wordsSmall, neverFalls, isCdt, atOrBel
 use Rattle.known_points.specs.EvenThresholds.{thresholdsFrom, evenThresholds}
 use Rattle.attempt.specs.Attempt.{accepts, sample, bitAt, sampleAt, attemptEntries}
 use Rattle.sampler.specs.Draw.{bitsFrom, drawBits, accepted, samplesFrom, drawY, entriesFrom, drawEntries, sampledBy}
-use Rattle.challenge.specs.Challenge.{positionsBelow, ascends, isChallenge}
+use Rattle.challenge.specs.Challenge.{positionsBelow, ascends, arePositions, isChallenge}
 use Rattle.challenge.specs.Product.{termAt, outputAt, outputsFrom, product, outputEntries, outputEntriesFrom, productEntries}
 use Rattle.acceptance.specs.Acceptance.{coshPasses, allPass, acceptsBy, acceptanceEntries}
 use Rattle.response.specs.Response.{responseOf, measuresOf, respondEntries, responseZ, responseBit, respondedBy}
-use Rattle.refusals.specs.Refusals.{openRefusal, drawRefusal, respondRefusal}
+use Rattle.refusals.specs.Refusals.{openRefusal, drawRefusal, noiseRefusal, respondRefusal}
 use Rattle.session.specs.Calls.{opened, refusalOfDraw, bitsOfDraw, drawServed, drawLeft, refusalOfRespond, bitOfRespond, zOfRespond, respondServed, respondLeft}
 use Rattle.session.specs.Histories.{draw, respond, leftBy, nextIn, entriesIn, Linked, readList, eventOf, history}
 use Rattle.session.specs.Demand3.{NoneRefused, AllAlike, Agreeing, seen}
@@ -70,9 +70,9 @@ tells-apart bits bits′ e = let z : _≡_ {A = ℕ} 0 1 = cc in omega arith
 -- what the calls do is computed
 pub demand3-instance : Demand3Instance
 unfolding callsOver callsRejecting rejecting drawing responding drawOver fives evenThresholds thresholdsFrom opened openRefusal leftBy drawLeft
-    drawServed refusalOfDraw drawRefusal bitsOfDraw respondLeft respondServed refusalOfRespond respondRefusal bitOfRespond Linked
+    drawServed refusalOfDraw drawRefusal bitsOfDraw respondLeft respondServed refusalOfRespond respondRefusal noiseRefusal bitOfRespond Linked
     NoneRefused AllAlike Agreeing history eventOf wordsBelow unless isDegree among allBelow isCdt wordsSmall neverFalls
-    isPolynomial sameWords polynomial polynomialFrom factorial isChallenge positionsBelow ascends allWithin drawBits bitsFrom
+    isPolynomial sameWords polynomial polynomialFrom factorial isChallenge arePositions positionsBelow ascends allWithin drawBits bitsFrom
     bitAt accepts sampleAt sample baseSample atOrBelow expWith expScaled reciprocal scaled evaluate squared squarings sampledBy
     accepted drawY samplesFrom drawEntries entriesFrom attemptEntries placesUp placesDown filledPart respondedBy responseBit
     responseZ responseOf measuresOf acceptsBy allPass coshPasses squareSum innerProduct product outputsFrom outputAt termAt respondEntries acceptanceEntries

@@ -18,11 +18,11 @@ use Rattle.known_points.specs.EvenThresholds.{thresholdsFrom, evenThresh
 use Rattle.base_sample.proofs.BaseSampleLaws.{base-sample-exactly, base-sample-rises}
 use Rattle.attempt.specs.Attempt.{accepts, sample, bitAt, sampleAt, attemptEntries}
 use Rattle.sampler.specs.Draw.{entriesFrom as drawnFrom, drawEntries}
-use Rattle.challenge.specs.Challenge.{positionsBelow, ascends, isChallenge}
+use Rattle.challenge.specs.Challenge.{positionsBelow, ascends, arePositions, isChallenge}
 use Rattle.challenge.specs.Product.{termAt, outputAt, outputsFrom, product, outputEntries, outputEntriesFrom, productEntries}
 use Rattle.acceptance.specs.Acceptance.{coshPasses, allPass, acceptsBy, acceptanceEntries}
 use Rattle.response.specs.Response.{responseOf, responseZ, measuresOf, respondEntries, responseBit}
-use Rattle.refusals.specs.Refusals.{openRefusal, drawRefusal, respondRefusal}
+use Rattle.refusals.specs.Refusals.{openRefusal, drawRefusal, noiseRefusal, respondRefusal}
 use Rattle.known_points.specs.KnownPoints.{e, oneHighFrom, oneHigh, KnownPoints}
 
 -- ** Words
@@ -93,7 +93,7 @@ pub known-points : KnownPoints
 unfolding evenThresholds thresholdsFrom oneHigh oneHighFrom isCdt wordsSmall neverFalls allBelow baseSample atOrBelow exp
     expOrRefusal expWith expScaled polynomial entriesFrom factorial reciprocal scaled evaluate squared squarings bitAt sampleAt
     accepts sample product outputsFrom outputAt termAt responseZ responseOf responseBit acceptsBy measuresOf allPass coshPasses
-    squareSum innerProduct openRefusal drawRefusal respondRefusal unless isDegree among isPolynomial sameWords isChallenge positionsBelow ascends
+    squareSum innerProduct openRefusal drawRefusal respondRefusal noiseRefusal unless isDegree among isPolynomial sameWords isChallenge arePositions positionsBelow ascends
     allWithin drawEntries drawnFrom attemptEntries placesUp placesDown respondEntries productEntries outputEntriesFrom outputEntries acceptanceEntries
 known-points = record {
   lowest-d = refl;

@@ -2,7 +2,7 @@
 use mathlib.Core.Path.{_≡_}
 use mathlib.Core.Bool.{Bool, true, _&&_}
 use mathlib.Core.List.{List}
-use Prim.Native.Nat.{ℕ, _+_, _*_, _≤_}
+use Prim.Native.Nat.{ℕ, _*_, _≤_}
 use native.Mathlib.Omega.{arith}
 use lib.Dec.{leb, eqb}
 use lib.IntN.{ℤ}
@@ -16,7 +16,10 @@ use Rattle.exponential.proofs.Table.{polynomial-of}
 use Rattle.base_sample.specs.BaseSample.{wordsSmall, neverFalls, isCdt}
 use Rattle.challenge.specs.Challenge.{isChallenge}
 use Rattle.challenge.proofs.Positions.{Challenge, challenge-of}
-use Rattle.refusals.specs.Refusals.{drawRefusal, respondRefusal}
+use Rattle.challenge.specs.Product.{keyBound}
+use Rattle.sampler.specs.Draw.{drawListLength}
+use Rattle.response.specs.Response.{noiseBound, respondListLength}
+use Rattle.refusals.specs.Refusals.{drawRefusal, noiseRefusal, respondRefusal}
 
 -- a draw
 pub record DrawServed (n limit : ℕ) (cdt table : List ℕ) (words y list : ℕ) : Type 0 where
@@ -27,7 +30,7 @@ pub record DrawServed (n limit : ℕ) (cdt table : List ℕ) (words y list : ℕ
   pub both : y ≡ 2 * n
   pub limit-high : limit ≤ 32 * n
   pub words-enough : 4 * limit ≤ words
-  pub list-enough : 46 * limit + 2 ≤ list
+  pub list-enough : drawListLength limit ≤ list
 
 pub draw-served : (n limit : ℕ) (cdt table : List ℕ) (words y list : ℕ) → drawRefusal n limit cdt table words y list ≡ 0 → DrawServed n limit cdt table words y list
 unfolding drawRefusal isCdt
@@ -38,7 +41,7 @@ draw-served n limit cdt table words y list h =
     let p4 = passed (isPolynomial table) 4 _ (omega arith) (p3 .1) in
     let p5 = passed (leb (2 * n) limit && leb limit (32 * n)) 5 _ (omega arith) (p4 .1) in
     let p7 = passed (leb (4 * limit) words) 7 _ (omega arith) (p5 .1) in
-    let p8 = passed (leb (46 * limit + 2) list) 8 _ (omega arith) (p7 .1) in
+    let p8 = passed (leb (drawListLength limit) list) 8 _ (omega arith) (p7 .1) in
     let sizes = both-true (eqb (length cdt) 20) _ (p2 .0) in
     record {
       degree = p1 .0;
@@ -48,7 +51,7 @@ draw-served n limit cdt table words y list h =
       both = eqb-true y (2 * n) (both-true (eqb (length table) 21) _ (sizes .1) .1);
       limit-high = leb-true limit (32 * n) (both-true (leb (2 * n) limit) _ (p5 .0) .1);
       words-enough = leb-true (4 * limit) words (p7 .0);
-      list-enough = leb-true (46 * limit + 2) list (p8 .0);
+      list-enough = leb-true (drawListLength limit) list (p8 .0);
     }
 
 -- a respond
@@ -60,24 +63,24 @@ pub record RespondServed (n : ℕ) (drawn : Bool) (challenge table : List ℕ) (
   pub key-both : length key ≡ 2 * n
   pub positions : Challenge n challenge
   pub words-enough : 3 ≤ words
-  pub list-enough : 2 * n * length challenge + 47 ≤ list
+  pub list-enough : respondListLength n (length challenge) ≤ list
   pub is-drawn : drawn ≡ true
-  pub key-small : allWithin 7 key ≡ true
-  pub y-small : allWithin 2815 y ≡ true
+  pub key-small : allWithin keyBound key ≡ true
+  pub y-small : allWithin noiseBound y ≡ true
 
 pub respond-served : (n : ℕ) (drawn : Bool) (challenge table : List ℕ) (words : ℕ) (key y : List ℤ) (z list : ℕ) → respondRefusal n drawn challenge table words key y z list ≡ 0
     → RespondServed n drawn challenge table words key y z list
-unfolding respondRefusal
+unfolding respondRefusal noiseRefusal
 respond-served n drawn challenge table words key y z list h =
     let p1 = passed (isDegree n) 1 _ (omega arith) h in
     let p2 = passed (eqb (length table) 21 && (eqb (length y) (2 * n) && (eqb z (2 * n) && eqb (length key) (2 * n)))) 2 _ (omega arith) (p1 .1) in
     let p4 = passed (isPolynomial table) 4 _ (omega arith) (p2 .1) in
     let p6 = passed (isChallenge n challenge) 6 _ (omega arith) (p4 .1) in
     let p7 = passed (leb 3 words) 7 _ (omega arith) (p6 .1) in
-    let p8 = passed (leb (2 * n * length challenge + 47) list) 8 _ (omega arith) (p7 .1) in
+    let p8 = passed (leb (respondListLength n (length challenge)) list) 8 _ (omega arith) (p7 .1) in
     let p9 = passed drawn 9 _ (omega arith) (p8 .1) in
-    let p10 = passed (allWithin 7 key) 10 _ (omega arith) (p9 .1) in
-    let p11 = passed (allWithin 2815 y) 11 _ (omega arith) (p10 .1) in
+    let p10 = passed (allWithin keyBound key) 10 _ (omega arith) (p9 .1) in
+    let p11 = passed (allWithin noiseBound y) 11 _ (omega arith) (p10 .1) in
     let sizes = both-true (eqb (length y) (2 * n)) _ (both-true (eqb (length table) 21) _ (p2 .0) .1) in
     let z-key = both-true (eqb z (2 * n)) (eqb (length key) (2 * n)) (sizes .1) in
     record {
@@ -88,7 +91,7 @@ respond-served n drawn challenge table words key y z list h =
       key-both = eqb-true (length key) (2 * n) (z-key .1);
       positions = challenge-of n challenge (p6 .0);
       words-enough = leb-true 3 words (p7 .0);
-      list-enough = leb-true (2 * n * length challenge + 47) list (p8 .0);
+      list-enough = leb-true (respondListLength n (length challenge)) list (p8 .0);
       is-drawn = p9 .0;
       key-small = p10 .0;
       y-small = p11 .0;

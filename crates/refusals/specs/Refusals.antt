@@ -30,6 +30,10 @@ drawRefusal n limit cdt polynomial words y list =
     (unless (leb (drawListLength limit) list) 8
     0))))))
 
+-- responding, as to y and the key: nothing is drawn, or a value is out of range
+unfoldable pub noiseRefusal : (drawn : Bool) (key y : List ℤ) → ℕ
+noiseRefusal drawn key y = unless drawn 9 (unless (allWithin keyBound key) 10 (unless (allWithin noiseBound y) 11 0))
+
 -- responding; of the words, z and the list it looks at the lengths alone
 unfoldable pub respondRefusal : (n : ℕ) (drawn : Bool) (challenge polynomial : List ℕ) (words : ℕ) (key y : List ℤ) (z list : ℕ) → ℕ
 respondRefusal n drawn challenge polynomial words key y z list =
@@ -39,7 +43,4 @@ respondRefusal n drawn challenge polynomial words key y z list =
     (unless (isChallenge n challenge) 6
     (unless (leb 3 words) 7
     (unless (leb (respondListLength n (length challenge)) list) 8
-    (unless drawn 9
-    (unless (allWithin keyBound key) 10
-    (unless (allWithin noiseBound y) 11
-    0))))))))
+    (noiseRefusal drawn key y))))))

@@ -1,6 +1,6 @@
 // The refusals of calls: of each call, the first that applies.
 ghost use mathlib.Core.Path.{_≡_};
-ghost use Rattle.refusals.specs.Refusals.{drawRefusal, respondRefusal};
+ghost use Rattle.refusals.specs.Refusals.{drawRefusal, noiseRefusal, respondRefusal};
 
 // The first refusal of a draw that applies, or 0. Sizes are multiplied only after their factors are found small.
 pub fn draw_refusal(
@@ -43,7 +43,7 @@ pub fn draw_refusal(
     0
 }
 
-// The first refusal of a respond that applies, or 0. Key and y are looked at whole, whatever their values are.
+// The first refusal of a respond that applies, or 0.
 pub fn respond_refusal(
     n: usize,
     drawn: bool,
@@ -81,6 +81,13 @@ pub fn respond_refusal(
     if list_short {
         return 8;
     }
+    noise_refusal(drawn, key, y)
+}
+
+// The first of refusals 9 to 11 that applies, or 0. Key and y are looked at whole, whatever their values are.
+fn noise_refusal(drawn: bool, key: &[i32], y: &[i32]) -> u32
+    ensures { λ r. ⌜ r ≡ noiseRefusal drawn (now (key .entry)) (now (y .entry)) ⌝ }
+{
     let key_small = signed::all_within(key, challenge::KEY_BOUND);
     let y_small = signed::all_within(y, response::NOISE_BOUND);
     if !drawn {

@@ -8,13 +8,12 @@ use native.Mathlib.Nat.{mul-le-mul}
 use native.Mathlib.Omega.{arith}
 use lib.Dec.{leb, eqb}
 use lib.ListN.{length}
-use Rattle.signed.specs.Vectors.{allWithin}
 use Rattle.checks.specs.Checks.{isDegree, unless}
 use Rattle.checks.proofs.Laws.{four-fail, holds, fails, degree-range, refused, not-refused}
 use Rattle.exponential.specs.Exponential.{isPolynomial}
 use Rattle.challenge.specs.Challenge.{isChallenge}
 use Rattle.challenge.proofs.Positions.{challenge-of}
-use Rattle.refusals.specs.Refusals.{respondRefusal}
+use Rattle.refusals.specs.Refusals.{noiseRefusal, respondRefusal}
 use Rattle.refusals.proofs.respond_refusal.Statement.{statement}
 use Rattle.refusals.proofs.respond_refusal.Tie as tie
 
@@ -94,7 +93,7 @@ abbrev entries : tie.Start → ℕ
 entries s = 2 * s .args .n * length (s .args .challenge .now) + 47
 
 abbrev from-9 : tie.Start → ℕ
-from-9 s = let a = s .args in unless (a .drawn) 9 (unless (allWithin 7 (a .key .now)) 10 (unless (allWithin 2815 (a .y .now)) 11 0))
+from-9 s = let a = s .args in noiseRefusal (a .drawn) (a .key .now) (a .y .now)
 
 from-7-on : (c : tie.Else4) → let s = start-4 c in refusal s ≡ unless (leb 3 (s .args .words)) 7 (unless (leb (entries s) (s .args .list)) 8 (from-9 s))
 unfolding respondRefusal unless
@@ -132,34 +131,13 @@ returns-6 c =
     let s = start-4 (c .before .before) in
     sym (from-8-on (c .before) ∙ refused _ 8 _ (lt-leb (entries s) (s .args .list) (ltb-true (s .args .list) (entries s) (c .if6 .taken))))
 
-all-within-requires : tie.Need-all-within-requires
-all-within-requires c κs = search needs
-
-all-within-requires-2 : tie.Need-all-within-requires-2
-all-within-requires-2 c κs = search needs
-
-abbrev start-7 : tie.Else7 → tie.Start
-start-7 c = start-4 (c .before .before .before .before .before)
-
-from-10-on : (c : tie.Else7) → let s = start-7 c in refusal s ≡ unless (allWithin 7 (s .args .key .now)) 10 (unless (allWithin 2815 (s .args .y .now)) 11 0)
-from-10-on c = from-9-on (c .before .before .before) ∙ not-refused _ 9 _ (not-false _ (c .if7 .left))
+noise-refusal-requires : tie.Need-noise-refusal-requires
+noise-refusal-requires c κs = search needs
 
 returns-7 : tie.Need-returns-7
-returns-7 c = sym (from-9-on (c .before .before .before) ∙ refused _ 9 _ (not-true _ (c .if7 .taken)))
-
-from-11-on : (c : tie.Else8) → let s = start-7 (c .before) in refusal s ≡ unless (allWithin 2815 (s .args .y .now)) 11 0
-from-11-on c = from-10-on (c .before) ∙ not-refused _ 10 _ (holds (c .before .before .before .all-within .ensures) (c .if8 .left))
-
-returns-8 : tie.Need-returns-8
-returns-8 c = sym (from-10-on (c .before) ∙ refused _ 10 _ (fails (c .before .before .before .all-within .ensures) (c .if8 .taken)))
-
-returns-10 : tie.Need-returns-10
-returns-10 c = sym (from-11-on (c .before) ∙ not-refused _ 11 _ (holds (c .before .before .before .all-within2 .ensures) (c .if9 .left)))
-
-returns-9 : tie.Need-returns-9
-returns-9 c = sym (from-11-on (c .before) ∙ refused _ 11 _ (fails (c .before .before .before .all-within2 .ensures) (c .if9 .taken)))
+returns-7 c = c .noise-refusal .ensures ∙ sym (from-9-on (c .before))
 
 pub respond-refusal-spec : {M : Type 1} → statement M
 respond-refusal-spec =
     tie.close
-    (tie.spec is-degree-requires returns mul-both returns-2 is-polynomial-requires returns-3 is-challenge-requires returns-4 returns-5 mul-list-short add-list-short returns-6 all-within-requires all-within-requires-2 returns-7 returns-8 returns-9 returns-10)
+    (tie.spec is-degree-requires returns mul-both returns-2 is-polynomial-requires returns-3 is-challenge-requires returns-4 returns-5 mul-list-short add-list-short returns-6 noise-refusal-requires returns-7)
