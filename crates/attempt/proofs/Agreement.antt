@@ -1,14 +1,15 @@
 -- An attempt gives the same where what is lent agrees on its entries. Assumes nothing.
-use mathlib.Core.Path.{_≡_}
+use mathlib.Core.Path.{_≡_, ap}
 use Prim.Native.Nat.{ℕ, _+_, _*_, _^_, _≤_, _<_}
 use native.Mathlib.Omega.{arith}
 use lib.ListN.{getD}
+use Rattle.arithmetic.specs.Words.{low62Of}
 use Rattle.read_list.specs.Entries.{placesUp}
 use Rattle.read_list.specs.Agreement.{Lent, Agree}
 use Rattle.read_list.proofs.Agreement.{agree-first, agree-rest, agree-placesUp, same-word, same-cdt-word}
 use Rattle.base_sample.specs.BaseSample.{baseSample}
 use Rattle.base_sample.proofs.Agreement.{same-base-sample}
-use Rattle.attempt.specs.Attempt.{drawAt, bitAt, sampleAt, attemptEntries}
+use Rattle.attempt.specs.Attempt.{drawAt, uniformAt, bitAt, sampleAt, attemptEntries}
 
 -- attempt t, whose words are named by places below 2 ^ 24
 module _ {a b : Lent} (t before : ℕ) (h : 4 * t + 4 ≤ 2 ^ 24) (same : Agree a b (attemptEntries t before)) where
@@ -27,9 +28,12 @@ module _ {a b : Lent} (t before : ℕ) (h : 4 * t + 4 ≤ 2 ^ 24) (same : Agree 
       rw (word (4 * t) (omega arith) (omega arith), word (4 * t + 1) (omega arith) (omega arith))
       (same-base-sample (a .cdt) (b .cdt) (drawAt (b .words) t) cdt-word)
 
+  uniform : uniformAt (a .words) t ≡ uniformAt (b .words) t
+  uniform = ap low62Of (word (4 * t + 3) (omega arith) (omega arith))
+
   pub same-bit : (e : ℕ → ℕ) → bitAt e (a .cdt) (a .words) t ≡ bitAt e (b .cdt) (b .words) t
   unfolding bitAt
-  same-bit e = rw (base-sample, word (4 * t + 2) (omega arith) (omega arith), word (4 * t + 3) (omega arith) (omega arith))
+  same-bit e = rw (base-sample, word (4 * t + 2) (omega arith) (omega arith), uniform)
 
   pub same-sample : sampleAt (a .cdt) (a .words) t ≡ sampleAt (b .cdt) (b .words) t
   unfolding sampleAt

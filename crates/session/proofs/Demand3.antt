@@ -1,8 +1,9 @@
 -- Demand 3: a read list tells the history and no more, and leaves out no place that an answer hangs on. Assumes nothing.
 use mathlib.Core.Path.{_≡_, refl, sym, ap, ap₂, _∙_, subst}
-use mathlib.Core.Bool.{true, false, false≢true}
+use mathlib.Core.Bool.{true, false, cond, false≢true}
 use mathlib.Core.List.{List, [], _∷_, _++_}
 use Prim.Native.Nat.{ℕ}
+use lib.Dec.{eqb}
 use lib.IntN.{ℤ}
 use Rattle.session.specs.declared.Session.{Session}
 use Rattle.session.specs.Calls.{opened}
@@ -16,7 +17,7 @@ use Rattle.session.proofs.SameCalls.{same-calls}
 -- what follows a call that is served is lent y as the call leaves it
 linked-on : (s : Session) (y : List ℤ) (c : Call) (calls : List Call) → refusalIn (leftBy s c) ≡ 0 → Linked s y (c ∷ calls) → Linked (nextIn (leftBy s c)) (yIn (leftBy s c)) calls
 unfolding Linked
-linked-on s y c calls h linked = rw h at (linked .1)
+linked-on s y c calls h linked = subst (λ (refusal : ℕ). Linked (nextIn (leftBy s c)) (cond (eqb refusal 0) (yIn (leftBy s c)) y) calls) h (linked .1)
 
 -- from one session; where y is drawn in it, both lists start from the same y
 same-lists : (s : Session) (y y′ : List ℤ) (calls calls′ : List Call) → (s .drawn ≡ true → y ≡ y′) → Linked s y calls → Linked s y′ calls′
