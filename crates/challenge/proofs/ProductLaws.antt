@@ -16,14 +16,14 @@ use Rattle.signed.proofs.Vectors.{squares-within, squares-append}
 use Rattle.read_list.specs.Entries.{entry}
 use Rattle.read_list.proofs.Laws.{sets-sets, sets-whole}
 use Rattle.challenge.proofs.ProductSizes.{term-within, product-within, length-outputsFrom, length-product, length-outputEntries, length-outputEntriesFrom, length-productEntries, half-bound}
-use Rattle.challenge.specs.Product.{indexOf, termAt, outputAt, outputsFrom, product, Factors, outputEntries, outputEntriesFrom, productEntries}
+use Rattle.challenge.specs.Product.{keyBound, outputBound, indexOf, termAt, outputAt, outputsFrom, product, Factors, outputEntries, outputEntriesFrom, productEntries}
 
 -- ** One output, position by position
 
 -- after k positions: the sum and what the others add are the output, and what is listed and what they list are its entries
 pub record Summed (key : List ℤ) (n base i : ℕ) (challenge list₀ : List ℕ) (at : ℕ) (list : List ℕ) (sum : ℤ) (k : ℕ) : Type 0 where
   pub turns : k ≤ length challenge
-  pub small : natAbs sum ≤ 7 * k
+  pub small : natAbs sum ≤ keyBound * k
   pub size : length list ≡ length list₀
   pub total : sum +ℤ outputAt key n base i (drop k challenge) ≡ outputAt key n base i challenge
   pub written : sets list (at + k) (outputEntries n base i (drop k challenge)) ≡ sets list₀ at (outputEntries n base i challenge)
@@ -38,7 +38,7 @@ sum-start key n base i challenge list at = record {
 }
 
 module _ {key : List ℤ} {n base i : ℕ} {challenge list₀ : List ℕ} {at : ℕ} {list : List ℕ} {sum : ℤ} {k : ℕ} (s : Summed key n base i challenge list₀ at list sum k) where
-  pub sum-more : {list′ : List ℕ} {sum′ : ℤ} → k < length challenge → allWithin 7 key ≡ true
+  pub sum-more : {list′ : List ℕ} {sum′ : ℤ} → k < length challenge → allWithin keyBound key ≡ true
       → list′ ≡ set list (at + k) (entry 8 (base + indexOf n i (getD challenge k 0))) → sum′ ≡ sum +ℤ termAt key n base i (getD challenge k 0)
       → Summed key n base i challenge list₀ at list′ sum′ (k + 1)
   unfolding outputAt outputEntries
@@ -47,7 +47,7 @@ module _ {key : List ℤ} {n base i : ℕ} {challenge list₀ : List ℕ} {at : 
       let next = drop-cons challenge k 0 h in
       record {
         turns = omega arith;
-        small = rw es (omega (arith, abs-add sum (termAt key n base i c), term-within key n base i c 7 small, s .small));
+        small = rw es (omega (arith, abs-add sum (termAt key n base i c), term-within key n base i c keyBound small, s .small));
         size = rw (el, length-set) (s .size);
         total = rw (es, add-one k) (+ℤ-assoc sum (termAt key n base i c) (outputAt key n base i (drop (suc k) challenge)) ∙ (rw next at (s .total)));
         written = rw (el, add-one k, add-suc at k) (rw next at (s .written));
@@ -176,7 +176,7 @@ module _ {key : List ℤ} {n : ℕ} {challenge list₀ : List ℕ} {at : ℕ} {z
   -- the sum with another half is far below 2 ^ 64
   pub turn-small : Factors key n challenge → (start : ℕ) {half : ℕ} → half ≡ squareSum (outputsFrom key n start challenge 0 n) → squares + half ≤ 3 * 200704 * n
   turn-small f start e =
-      omega (arith, half-bound key n start challenge (f .small) (f .few), squares-within 448 (product key n challenge) (product-within key n (f .small) challenge (f .few)), length-product key n challenge, t .sum)
+      omega (arith, half-bound key n start challenge (f .small) (f .few), squares-within outputBound (product key n challenge) (product-within key n (f .small) challenge (f .few)), length-product key n challenge, t .sum)
 
   pub turn-more : {z′ : List ℤ} {list′ : List ℕ} {half : ℕ} → base < 2 * n → half ≡ squareSum (outputsFrom key n base challenge 0 n)
       → z′ ≡ sets z base (outputsFrom key n base challenge 0 n) → list′ ≡ sets list place (outputEntriesFrom n base challenge 0 n)

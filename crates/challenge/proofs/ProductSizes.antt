@@ -10,7 +10,8 @@ use lib.IntN.{ℤ, pos, negℤ, natAbs}
 use Rattle.signed.specs.Vectors.{allWithin, squareSum}
 use Rattle.signed.proofs.Signs.{abs-neg, abs-add}
 use Rattle.signed.proofs.Vectors.{within-at, within-none, within-more, within-append, squares-within}
-use Rattle.challenge.specs.Product.{indexOf, termAt, outputAt, outputsFrom, product, outputEntries, outputEntriesFrom, productEntries}
+use Rattle.challenge.specs.Challenge.{mostPositions}
+use Rattle.challenge.specs.Product.{keyBound, outputBound, indexOf, termAt, outputAt, outputsFrom, product, outputEntries, outputEntriesFrom, productEntries}
 
 -- ** Bounds
 
@@ -22,20 +23,20 @@ term-within key n base i c bound h = by (leb c i) (base + indexOf n i c)
     by true place = within-at bound key h place
     by false place = rw (abs-neg (getD key place (pos 0))) (within-at bound key h place)
 
-module _ (key : List ℤ) (n : ℕ) (h : allWithin 7 key ≡ true) where
-  pub output-within : (base i : ℕ) (challenge : List ℕ) → natAbs (outputAt key n base i challenge) ≤ 7 * length challenge
+module _ (key : List ℤ) (n : ℕ) (h : allWithin keyBound key ≡ true) where
+  pub output-within : (base i : ℕ) (challenge : List ℕ) → natAbs (outputAt key n base i challenge) ≤ keyBound * length challenge
   unfolding outputAt
   output-within base i [] = omega arith
-  output-within base i (c ∷ challenge) = omega (arith, abs-add (termAt key n base i c) (outputAt key n base i challenge), term-within key n base i c 7 h, output-within base i challenge)
+  output-within base i (c ∷ challenge) = omega (arith, abs-add (termAt key n base i c) (outputAt key n base i challenge), term-within key n base i c keyBound h, output-within base i challenge)
 
-  outputs-within : (base : ℕ) (challenge : List ℕ) → length challenge ≤ 64 → (i count : ℕ) → allWithin 448 (outputsFrom key n base challenge i count) ≡ true
+  outputs-within : (base : ℕ) (challenge : List ℕ) → length challenge ≤ mostPositions → (i count : ℕ) → allWithin outputBound (outputsFrom key n base challenge i count) ≡ true
   unfolding outputsFrom
-  outputs-within base challenge l i zero = within-none 448
-  outputs-within base challenge l i (suc count) = within-more 448 (outputAt key n base i challenge) (outputsFrom key n base challenge (suc i) count) (omega (arith, output-within base i challenge)) (outputs-within base challenge l (suc i) count)
+  outputs-within base challenge l i zero = within-none outputBound
+  outputs-within base challenge l i (suc count) = within-more outputBound (outputAt key n base i challenge) (outputsFrom key n base challenge (suc i) count) (omega (arith, output-within base i challenge)) (outputs-within base challenge l (suc i) count)
 
-  pub product-within : (challenge : List ℕ) → length challenge ≤ 64 → allWithin 448 (product key n challenge) ≡ true
+  pub product-within : (challenge : List ℕ) → length challenge ≤ mostPositions → allWithin outputBound (product key n challenge) ≡ true
   unfolding product
-  product-within challenge l = within-append 448 (outputsFrom key n 0 challenge 0 n) (outputsFrom key n n challenge 0 n) (outputs-within 0 challenge l 0 n) (outputs-within n challenge l 0 n)
+  product-within challenge l = within-append outputBound (outputsFrom key n 0 challenge 0 n) (outputsFrom key n n challenge 0 n) (outputs-within 0 challenge l 0 n) (outputs-within n challenge l 0 n)
 
 -- ** Lengths
 
@@ -69,7 +70,7 @@ length-productEntries n challenge =
 
 -- ** The sum of squares of a half
 
-pub half-bound : (key : List ℤ) (n base : ℕ) (challenge : List ℕ) → allWithin 7 key ≡ true → length challenge ≤ 64 → squareSum (outputsFrom key n base challenge 0 n) ≤ 200704 * n
+pub half-bound : (key : List ℤ) (n base : ℕ) (challenge : List ℕ) → allWithin keyBound key ≡ true → length challenge ≤ mostPositions → squareSum (outputsFrom key n base challenge 0 n) ≤ 200704 * n
 half-bound key n base challenge h l =
     let all = outputsFrom key n base challenge 0 n in
-    omega (arith, squares-within 448 all (outputs-within key n h base challenge l 0 n), length-outputsFrom key n base challenge 0 n)
+    omega (arith, squares-within outputBound all (outputs-within key n h base challenge l 0 n), length-outputsFrom key n base challenge 0 n)

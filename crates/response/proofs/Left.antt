@@ -13,7 +13,7 @@ use Rattle.read_list.proofs.Laws.{length-placesUp, sets-sets}
 use Rattle.challenge.specs.Product.{productEntries}
 use Rattle.challenge.proofs.ProductSizes.{length-productEntries}
 use Rattle.acceptance.specs.Acceptance.{acceptanceEntries}
-use Rattle.response.specs.Response.{respondEntries, respondedBy}
+use Rattle.response.specs.Response.{respondListLength, respondEntries, respondedBy}
 use Rattle.response.proofs.RespondTells.{length-respondEntries}
 
 judged-written : (n : ℕ) (accepted : Bool) (challenge list : List ℕ) →
@@ -28,7 +28,7 @@ judged-written n accepted challenge list =
     ∙ ap (λ (es : List ℕ). sets list 0 (entry 7 n ∷ es)) (append-assoc product words rest)
 
 pub response-left : (n : ℕ) (accepted bit₁ : Bool) (challenge : List ℕ) (z : List ℤ) (list : List ℕ) (entries : ℕ) (y y₁ z₁ z₂ : List ℤ) (l₁ l₂ : List ℕ)
-    → bit₁ ≡ accepted → entries ≡ 2 * n * length challenge + 47 → length y ≡ 2 * n → y₁ ≡ replicate (length y) (pos 0)
+    → bit₁ ≡ accepted → entries ≡ respondListLength n (length challenge) → length y ≡ 2 * n → y₁ ≡ replicate (length y) (pos 0)
     → length z₁ ≡ 2 * n → z₁ ≡ z → z₂ ≡ cond bit₁ z₁ (replicate (length z₁) (pos 0))
     → l₁ ≡ sets list 0 (entry 7 n ∷ (productEntries n challenge ++ placesUp 2 0 3)) → l₂ ≡ sets l₁ (2 * n * length challenge + 4) (acceptanceEntries bit₁)
     → record { answer = record { bit = bit₁; entries = entries }; y = y₁; z = z₂; list = l₂ } ≡ respondedBy n accepted challenge z list

@@ -12,7 +12,8 @@ use lib.IntN.{ℤ, pos, negℤ, natAbs, _+ℤ_, _*ℤ_, +ℤ-idl, +ℤ-idr, +ℤ
 use Rattle.signed.specs.Vectors.{allWithin, squareSum, innerProduct}
 use Rattle.signed.proofs.Signs.{abs-neg, abs-add, abs-mul}
 use Rattle.signed.proofs.Vectors.{within-parts, within-none, within-more, squares-within, inner-within}
-use Rattle.response.specs.Response.{responseOf}
+use Rattle.challenge.specs.Product.{outputBound}
+use Rattle.response.specs.Response.{noiseBound, responseBound, responseOf}
 
 -- ** The values
 
@@ -34,14 +35,14 @@ abs-turned : (g : Bool) (c : ℤ) → natAbs (cond g (negℤ c) c) ≡ natAbs c
 abs-turned true c = abs-neg c
 abs-turned false c = refl
 
-pub response-within : (g : Bool) (y sc : List ℤ) → allWithin 2815 y ≡ true → allWithin 448 sc ≡ true → allWithin 3263 (responseOf g y sc) ≡ true
+pub response-within : (g : Bool) (y sc : List ℤ) → allWithin noiseBound y ≡ true → allWithin outputBound sc ≡ true → allWithin responseBound (responseOf g y sc) ≡ true
 unfolding responseOf
-response-within g [] sc hy hs = within-none 3263
-response-within g (v ∷ y) [] hy hs = within-none 3263
+response-within g [] sc hy hs = within-none responseBound
+response-within g (v ∷ y) [] hy hs = within-none responseBound
 response-within g (v ∷ y) (c ∷ sc) hy hs =
-    let py = within-parts 2815 v y hy in
-    let ps = within-parts 448 c sc hs in
-    within-more 3263 (v +ℤ cond g (negℤ c) c) (responseOf g y sc) (omega (arith, abs-add v (cond g (negℤ c) c), abs-turned g c, py .0, ps .0)) (response-within g y sc (py .1) (ps .1))
+    let py = within-parts noiseBound v y hy in
+    let ps = within-parts outputBound c sc hs in
+    within-more responseBound (v +ℤ cond g (negℤ c) c) (responseOf g y sc) (omega (arith, abs-add v (cond g (negℤ c) c), abs-turned g c, py .0, ps .0)) (response-within g y sc (py .1) (ps .1))
 
 -- ** The pass over both vectors
 
@@ -74,7 +75,7 @@ module _ {whole sc z : List ℤ} {norm : ℕ} {inner : ℤ} {i : ℕ} (lengths :
         (set-at (take i whole) (getD sc i (pos 0)) (drop (suc i) sc) (getD whole i (pos 0)) i (length-take-le i whole (omega arith))
         ∙ sym (append-snoc (take i whole) (getD whole i (pos 0)) (drop (suc i) sc)))
 
-    pub add-more : {z′ : List ℤ} {norm′ : ℕ} {inner′ : ℤ} → natAbs (getD whole i (pos 0)) ≤ 3263 → natAbs (getD sc i (pos 0)) ≤ 448
+    pub add-more : {z′ : List ℤ} {norm′ : ℕ} {inner′ : ℤ} → natAbs (getD whole i (pos 0)) ≤ responseBound → natAbs (getD sc i (pos 0)) ≤ outputBound
         → z′ ≡ set z i (getD whole i (pos 0)) → norm′ ≡ norm + natAbs (getD whole i (pos 0)) * natAbs (getD whole i (pos 0)) → inner′ ≡ inner +ℤ (getD whole i (pos 0) *ℤ getD sc i (pos 0))
         → Added whole sc z′ norm′ inner′ (i + 1)
     unfolding squareSum innerProduct
@@ -100,8 +101,8 @@ module _ {whole sc z : List ℤ} {norm : ℕ} {inner : ℤ} {i : ℕ} (lengths :
       let none′ : drop i sc ≡ [] = rw (all ∙ lengths) (drop-length sc) in
       ((omega (arith, rw none at (s .norm-is)), sym (+ℤ-idr inner) ∙ (rw none at (s .inner-is))), s .mixed ∙ rw (take-all i whole (omega arith), none′) (append-nil whole))
 
-pub norm-bound : (g : Bool) (y sc : List ℤ) → length y ≡ length sc → allWithin 2815 y ≡ true → allWithin 448 sc ≡ true → squareSum (responseOf g y sc) ≤ 10647169 * length sc
-norm-bound g y sc l hy hs = omega (arith, squares-within 3263 (responseOf g y sc) (response-within g y sc hy hs), length-response g y sc l)
+pub norm-bound : (g : Bool) (y sc : List ℤ) → length y ≡ length sc → allWithin noiseBound y ≡ true → allWithin outputBound sc ≡ true → squareSum (responseOf g y sc) ≤ 10647169 * length sc
+norm-bound g y sc l hy hs = omega (arith, squares-within responseBound (responseOf g y sc) (response-within g y sc hy hs), length-response g y sc l)
 
-pub inner-bound : (g : Bool) (y sc : List ℤ) → allWithin 2815 y ≡ true → allWithin 448 sc ≡ true → natAbs (innerProduct (responseOf g y sc) sc) ≤ 1461824 * length sc
-inner-bound g y sc hy hs = omega (arith, inner-within 3263 448 (responseOf g y sc) sc (response-within g y sc hy hs) hs)
+pub inner-bound : (g : Bool) (y sc : List ℤ) → allWithin noiseBound y ≡ true → allWithin outputBound sc ≡ true → natAbs (innerProduct (responseOf g y sc) sc) ≤ 1461824 * length sc
+inner-bound g y sc hy hs = omega (arith, inner-within responseBound outputBound (responseOf g y sc) sc (response-within g y sc hy hs) hs)

@@ -1,13 +1,13 @@
 -- What a call leaves, by whether it is refused. Assumes nothing.
 use mathlib.Core.Path.{_≡_, refl, sym, _∙_}
 use mathlib.Core.List.{[]}
-use Prim.Native.Nat.{ℕ, zero, suc, _+_, _*_, _≤_}
+use Prim.Native.Nat.{ℕ, zero, suc, _*_, _≤_}
 use native.Mathlib.Nat.{le-trans}
 use native.Mathlib.Omega.{arith}
 use lib.ListN.{length}
 use borrow.Author.Tests.{eq-eqb, ne-eqb}
 use Rattle.read_list.proofs.Laws.{filled-written}
-use Rattle.sampler.specs.Draw.{drawEntries, sampledBy}
+use Rattle.sampler.specs.Draw.{drawListLength, drawEntries, sampledBy}
 use Rattle.sampler.proofs.DrawTells.{draw-entries-at-most}
 use Rattle.response.specs.Response.{respondEntries, respondedBy}
 use Rattle.response.proofs.RespondTells.{length-respondEntries}
@@ -41,7 +41,7 @@ module _ (s : Session) (d : Draw) where
   unfolding refusalOfDraw
   draw-passed h = draw-served (s .degree) (d .limit) (d .cdt) (d .polynomial) (length (d .words)) (length (d .y)) (length (d .list)) h
 
-  pub draw-entries-few : length (drawEntries (s .degree) (bitsOfDraw s d)) ≤ 46 * d .limit + 2
+  pub draw-entries-few : length (drawEntries (s .degree) (bitsOfDraw s d)) ≤ drawListLength (d .limit)
   unfolding bitsOfDraw
   draw-entries-few = draw-entries-at-most _ (d .cdt) (d .words) (s .degree) (d .limit) (2 * s .degree)
 

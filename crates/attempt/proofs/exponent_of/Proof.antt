@@ -4,14 +4,15 @@ use mathlib.Core.Path.{ap}
 use Prim.Native.Nat.{ℕ, _+_, _*_, _^_, _≤_, _<_}
 use native.Mathlib.Nat.{mul-le-mul}
 use native.Mathlib.Omega.{arith}
+use Rattle.exponential.specs.Exponential.{attemptLimit}
 use Rattle.attempt.specs.Attempt.{exponent}
 use Rattle.attempt.proofs.exponent_of.Statement.{statement}
 use Rattle.attempt.proofs.exponent_of.Tie as tie
 
-at-most : (x b : ℕ) → x ≤ 10 → b < 2 ^ 8 → b * (b + 512 * x) ≤ 1370625
+at-most : (x b : ℕ) → x ≤ 10 → b < 2 ^ 8 → b * (b + 512 * x) ≤ attemptLimit
 at-most x b h g = mul-le-mul {n₁ = b} {m₁ = b + 512 * x} {n₂ = 255} {m₂ = 5375} (omega arith) (omega arith)
 
-small : (c : tie.After-low8) → c .low8 .result * (c .low8 .result + 512 * c .before .args .x) ≤ 1370625
+small : (c : tie.After-low8) → c .low8 .result * (c .low8 .result + 512 * c .before .args .x) ≤ attemptLimit
 small c = at-most (c .before .args .x) (c .low8 .result) (c .before .pre) (omega (arith, c .low8 .ensures))
 
 low8-requires : tie.Need-low8-requires

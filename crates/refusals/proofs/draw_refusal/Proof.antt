@@ -2,7 +2,7 @@
 use borrow.Author.Needs.{needs}
 use mathlib.Core.Path.{_≡_, sym, _∙_}
 use mathlib.Core.Bool.{Bool, true, not, _&&_, _||_}
-use Prim.Native.Nat.{ℕ, _+_, _*_, _≤_}
+use Prim.Native.Nat.{ℕ, _*_, _≤_}
 use native.Mathlib.Omega.{arith}
 use lib.Dec.{leb, ltb, eqb}
 use lib.ListN.{length}
@@ -11,6 +11,7 @@ use Rattle.checks.specs.Checks.{isDegree, unless}
 use Rattle.checks.proofs.Laws.{both-true, two-fail, three-fail, below-not-above, holds, fails, degree-range, refused, not-refused}
 use Rattle.exponential.specs.Exponential.{isPolynomial}
 use Rattle.base_sample.specs.BaseSample.{isCdt}
+use Rattle.sampler.specs.Draw.{drawListLength}
 use Rattle.refusals.specs.Refusals.{drawRefusal}
 use Rattle.refusals.proofs.draw_refusal.Statement.{statement}
 use Rattle.refusals.proofs.draw_refusal.Tie as tie
@@ -101,7 +102,7 @@ limits-fail s =
     rw (below-not-above (a .limit) (2 * a .n), below-not-above (32 * a .n) (a .limit)) (two-fail (leb (2 * a .n) (a .limit)) (leb (a .limit) (32 * a .n)))
 
 abbrev from-7 : tie.Start → ℕ
-from-7 s = let a = s .args in unless (leb (4 * a .limit) (a .words)) 7 (unless (leb (46 * a .limit + 2) (a .list)) 8 0)
+from-7 s = let a = s .args in unless (leb (4 * a .limit) (a .words)) 7 (unless (leb (drawListLength (a .limit)) (a .list)) 8 0)
 
 from-5-on : (c : tie.Else4) → let s = start-4 c in refusal s ≡ unless (limit-test s) 5 (from-7 s)
 unfolding drawRefusal unless
@@ -136,7 +137,7 @@ mul-if7 c = omega (arith, limit-small (c .before))
 add-if7 : tie.Need-add-if7
 add-if7 c = omega (arith, limit-small (c .before))
 
-from-8-on : (c : tie.Else6) → let s = start-4 (c .before .before) in refusal s ≡ unless (leb (46 * s .args .limit + 2) (s .args .list)) 8 0
+from-8-on : (c : tie.Else6) → let s = start-4 (c .before .before) in refusal s ≡ unless (leb (drawListLength (s .args .limit)) (s .args .list)) 8 0
 from-8-on c = from-7-on (c .before) ∙ not-refused _ 7 _ (le-leb _ _ (c .if6 .left))
 
 returns-7 : tie.Need-returns-7

@@ -3,7 +3,7 @@ use borrow.Author.Needs.{needs}
 use borrow.Author.Tests.{not-true, not-false, ltb-true, ltb-false, lt-leb, le-leb}
 use mathlib.Core.Path.{_≡_, sym, _∙_}
 use mathlib.Core.Bool.{Bool, true, not, _&&_, _||_}
-use Prim.Native.Nat.{ℕ, _+_, _*_, _≤_}
+use Prim.Native.Nat.{ℕ, _*_, _≤_}
 use native.Mathlib.Nat.{mul-le-mul}
 use native.Mathlib.Omega.{arith}
 use lib.Dec.{leb, eqb}
@@ -13,6 +13,7 @@ use Rattle.checks.proofs.Laws.{four-fail, holds, fails, degree-range, refused, 
 use Rattle.exponential.specs.Exponential.{isPolynomial}
 use Rattle.challenge.specs.Challenge.{isChallenge}
 use Rattle.challenge.proofs.Positions.{challenge-of}
+use Rattle.response.specs.Response.{respondListLength}
 use Rattle.refusals.specs.Refusals.{noiseRefusal, respondRefusal}
 use Rattle.refusals.proofs.respond_refusal.Statement.{statement}
 use Rattle.refusals.proofs.respond_refusal.Tie as tie
@@ -90,7 +91,7 @@ returns-4 c =
 -- ** From refusal 7 on: where those before don't apply, the others decide
 
 abbrev entries : tie.Start → ℕ
-entries s = 2 * s .args .n * length (s .args .challenge .now) + 47
+entries s = respondListLength (s .args .n) (length (s .args .challenge .now))
 
 abbrev from-9 : tie.Start → ℕ
 from-9 s = let a = s .args in noiseRefusal (a .drawn) (a .key .now) (a .y .now)

@@ -12,7 +12,8 @@ use mir.Val.{toZ, ofZ}
 use Rattle.signed.specs.Signs.{sign}
 use Rattle.signed.proofs.Signs.{read-back, times-sign}
 use Rattle.signed.proofs.Vectors.{within-at}
-use Rattle.response.specs.Response.{subtracts, responseOf}
+use Rattle.challenge.specs.Product.{outputBound}
+use Rattle.response.specs.Response.{noiseBound, responseBound, subtracts, responseOf}
 use Rattle.response.proofs.Passes.{length-response, response-at, response-within, norm-bound, Added, add-start, product-stands, norm-within, add-more, add-end}
 use Rattle.response.proofs.add_product.Statement.{statement}
 use Rattle.response.proofs.add_product.Tie as tie
@@ -69,8 +70,8 @@ response-at-requires c κs =
     let s = c .before .before .before .before .before .before in
     let i = c .before .before .before .loop .i in
     let g = c .before .before .before .before in (
-      rw (y-read c) (within-at 2815 (s .args .y .now) (s .pre .2) i),
-      rw (product-read (c .before)) (within-at 448 (s .args .z .now) (s .pre .3) i),
+      rw (y-read c) (within-at noiseBound (s .args .y .now) (s .pre .2) i),
+      rw (product-read (c .before)) (within-at outputBound (s .args .z .now) (s .pre .3) i),
       rw (read-back (record { sfits = g .sign-of .ok })) (g .sign-of .ensures .1),
     )
 
@@ -118,7 +119,7 @@ plus-product-requires c κs =
     let l = c .before .before .before .before .before .loop in (
       omega (arith, l .inv .inner-small, l .inv .turns, s .pre .1),
       rw (read-back (record { sfits = c .before .response-at .ok })) (omega (arith, c .before .response-at .ensures .1)),
-      rw (product-read (c .before .before .before)) (omega (arith, within-at 448 (s .args .z .now) (s .pre .3) (l .i))),
+      rw (product-read (c .before .before .before)) (omega (arith, within-at outputBound (s .args .z .now) (s .pre .3) (l .i))),
     )
 
 add-i : tie.Need-add-i Inv-loop μ-loop
@@ -134,8 +135,8 @@ loop-again c =
     let r = c .before .before in
     let v = read-back (record { sfits = r .response-at .ok }) ∙ made r in
     add-more (lengths s) (l .inv) (inside (c .before .before .before .before .before))
-    (within-at 3263 (whole s) (response-within (subtracts (s .args .word)) (s .args .y .now) (s .args .z .now) (s .pre .2) (s .pre .3)) (l .i))
-    (within-at 448 (s .args .z .now) (s .pre .3) (l .i))
+    (within-at responseBound (whole s) (response-within (subtracts (s .args .word)) (s .args .y .now) (s .args .z .now) (s .pre .2) (s .pre .3)) (l .i))
+    (within-at outputBound (s .args .z .now) (s .pre .3) (l .i))
     (ap (λ (x : ℤ). set (l .z) (l .i) x) v)
     (ap (λ (m : ℕ). l .norm + m) (squared (c .before)))
     (read-back (record { sfits = c .plus-product .ok }) ∙ c .plus-product .ensures ∙ ap₂ (λ (a b : ℤ). toZ w64 (l .inner) +ℤ (a *ℤ b)) v (product-read (c .before .before .before .before)))

@@ -14,7 +14,7 @@ use Rattle.signed.specs.Vectors.{allWithin, squareSum, innerProduct}
 use Rattle.signed.proofs.Signs.{fits-of-abs, read-back}
 use Rattle.read_list.specs.Entries.{entry, placesUp}
 use Rattle.read_list.proofs.Laws.{written-behind}
-use Rattle.challenge.specs.Product.{product, productEntries}
+use Rattle.challenge.specs.Product.{outputBound, product, productEntries}
 use Rattle.challenge.proofs.ProductSizes.{length-product, length-productEntries, product-within}
 use Rattle.response.specs.Response.{subtracts, responseOf, responseZ, measuresOf}
 use Rattle.response.proofs.Passes.{inner-bound}
@@ -45,7 +45,7 @@ add-product-requires c κs =
     let a = s .args in
     let made = c .before .before .before .before .before .before .before .before .product-listed .ensures .1 .0 in
     let size = ap length made ∙ length-product (a .key .now) (a .degree) (a .challenge .now) in
-    (s .pre .1 .1 ∙ sym size, omega (arith, size, s .pre .0 .degree), s .pre .1 .2, ap (allWithin 448) made ∙ product-within (a .key .now) (a .degree) (s .pre .0 .small) (a .challenge .now) (s .pre .0 .few))
+    (s .pre .1 .1 ∙ sym size, omega (arith, size, s .pre .0 .degree), s .pre .1 .2, ap (allWithin outputBound) made ∙ product-within (a .key .now) (a .degree) (s .pre .0 .small) (a .challenge .now) (s .pre .0 .few))
 
 same-length : tie.Need-same-length
 same-length c = search needs

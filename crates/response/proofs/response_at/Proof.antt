@@ -5,6 +5,7 @@ use native.Mathlib.Nat.{mul-le-mul}
 use native.Mathlib.Omega.{arith}
 use lib.IntN.{ℤ, natAbs, _+ℤ_, _*ℤ_}
 use Rattle.signed.proofs.Signs.{abs-add, abs-mul, read-back}
+use Rattle.challenge.specs.Product.{outputBound}
 use Rattle.response.proofs.response_at.Statement.{statement}
 use Rattle.response.proofs.response_at.Tie as tie
 
@@ -15,7 +16,7 @@ times-sign-requires c κs = rw (read-back (c .fits .sc), read-back (c .fits .sig
 turned : (c : tie.After-times-sign) → c .times-sign .result ≡ c .before .args .sc *ℤ c .before .args .sign
 turned c = c .times-sign .ensures ∙ ap₂ (λ (a b : ℤ). a *ℤ b) (read-back (c .before .fits .sc)) (read-back (c .before .fits .sign))
 
-turned-small : (c : tie.After-times-sign) → natAbs (c .before .args .sc *ℤ c .before .args .sign) ≤ 448
+turned-small : (c : tie.After-times-sign) → natAbs (c .before .args .sc *ℤ c .before .args .sign) ≤ outputBound
 turned-small c = omega (arith, abs-mul (c .before .args .sc) (c .before .args .sign), mul-le-mul (c .before .pre .1) (c .before .pre .2))
 
 plus-requires : tie.Need-plus-requires
