@@ -9,20 +9,16 @@ use lib.Pow.{pow-pos}
 use lib.Dec.{leb, ltb, eqb}
 use lib.IntN.{ℤ, pos, negsuc}
 use borrow.Author.Tests.{lt-ltb, le-ltb, lt-leb}
-use Rattle.read_list.specs.Entries.{placesUp, placesDown}
-use Rattle.checks.specs.Checks.{among, isDegree, allBelow, unless}
-use Rattle.signed.specs.Vectors.{allWithin, squareSum, innerProduct}
-use Rattle.exponential.specs.Exponential.{factorial, entriesFrom, polynomial, sameWords, isPolynomial, reciprocal, scaled, evaluate, squared, squarings, expScaled, expWith, exp, expOrRefusal}
+use Rattle.checks.specs.Checks.{allBelow}
+use Rattle.signed.specs.Vectors.{squareSum, innerProduct}
+use Rattle.exponential.specs.Exponential.{factorial, entriesFrom, polynomial, reciprocal, scaled, evaluate, squared, squarings, expScaled, expWith, exp, expOrRefusal}
 use Rattle.base_sample.specs.BaseSample.{wordsSmall, neverFalls, isCdt, atOrBelow, baseSample}
 use Rattle.known_points.specs.EvenThresholds.{thresholdsFrom, evenThresholds}
 use Rattle.base_sample.proofs.BaseSampleLaws.{base-sample-exactly, base-sample-rises}
-use Rattle.attempt.specs.Attempt.{accepts, sample, bitAt, sampleAt, attemptEntries}
-use Rattle.sampler.specs.Draw.{entriesFrom as drawnFrom, drawEntries}
-use Rattle.challenge.specs.Challenge.{positionsBelow, ascends, arePositions, isChallenge}
-use Rattle.challenge.specs.Product.{termAt, outputAt, outputsFrom, product, outputEntries, outputEntriesFrom, productEntries}
-use Rattle.acceptance.specs.Acceptance.{coshPasses, allPass, acceptsBy, acceptanceEntries}
-use Rattle.response.specs.Response.{responseOf, responseZ, measuresOf, respondEntries, responseBit}
-use Rattle.refusals.specs.Refusals.{openRefusal, drawRefusal, noiseRefusal, respondRefusal}
+use Rattle.attempt.specs.Attempt.{accepts, sample, bitAt, sampleAt}
+use Rattle.challenge.specs.Product.{termAt, outputAt, outputsFrom, product}
+use Rattle.acceptance.specs.Acceptance.{coshPasses, allPass, acceptsBy}
+use Rattle.response.specs.Response.{responseOf, responseZ, measuresOf, responseBit}
 use Rattle.known_points.specs.KnownPoints.{e, oneHighFrom, oneHigh, KnownPoints}
 
 -- ** Words
@@ -93,8 +89,7 @@ pub known-points : KnownPoints
 unfolding evenThresholds thresholdsFrom oneHigh oneHighFrom isCdt wordsSmall neverFalls allBelow baseSample atOrBelow exp
     expOrRefusal expWith expScaled polynomial entriesFrom factorial reciprocal scaled evaluate squared squarings bitAt sampleAt
     accepts sample product outputsFrom outputAt termAt responseZ responseOf responseBit acceptsBy measuresOf allPass coshPasses
-    squareSum innerProduct openRefusal drawRefusal respondRefusal noiseRefusal unless isDegree among isPolynomial sameWords isChallenge arePositions positionsBelow ascends
-    allWithin drawEntries drawnFrom attemptEntries placesUp placesDown respondEntries productEntries outputEntriesFrom outputEntries acceptanceEntries
+    squareSum innerProduct
 known-points = record {
   lowest-d = refl;
   d-below-first = refl;
@@ -113,49 +108,6 @@ known-points = record {
   challenge-0-3 = λ s2. refl;
   cosh-at-one = cosh-one;
   cosh-at-zero = cosh-zero;
-  entries-21 = refl;
-  entry-0 = refl;
-  entry-1 = refl;
-  entry-19 = refl;
-  entry-20 = refl;
-  divisor-by-64 = refl;
-  twice-215-squared = refl;
-  norm-limit = refl;
-  noise-bound = refl;
-  refusal-1 = refl;
-  refusal-2 = refl;
-  refusal-3 = refl;
-  refusal-4 = refl;
-  refusal-5 = refl;
-  refusal-6 = refl;
-  refusal-7 = refl;
-  refusal-8 = refl;
-  refusal-9 = refl;
-  refusal-10 = refl;
-  refusal-11 = refl;
-  refusal-12 = refl;
-  refusal-6-empty = refl;
-  refusal-6-position = refl;
-  first-2 = refl;
-  first-3 = refl;
-  first-4 = refl;
-  first-5 = refl;
-  first-7 = refl;
-  first-6 = refl;
-  first-8 = refl;
-  first-9 = refl;
-  first-10 = refl;
-  served-8 = refl;
-  served-128 = refl;
-  refused-129 = refl;
-  served-55 = refl;
-  refused-54 = refl;
-  entry-is = refl;
-  draw-list = refl;
-  second-words = refl;
-  second-end = refl;
-  respond-list = refl;
-  rejected-end = refl;
   even-is-cdt = refl;
   one-high-is-cdt = refl;
   d-below-by-62-bits = λ top₀ top₁. ap₂ (λ (high low : ℕ). baseSample evenThresholds (high * 2 ^ 62 + low)) (top-cut top₀ (2 ^ 40 - 1)) (top-cut top₁ (2 ^ 62 - 1));

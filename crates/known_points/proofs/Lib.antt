@@ -1,2 +1,3 @@
 pub mod KnownPoints
+pub mod Examples
 pub mod Demand3Instance

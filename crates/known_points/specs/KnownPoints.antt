@@ -1,23 +1,20 @@
--- The known points of document 01 that form its table, those marked with a star there, the numbers and examples in its text, and points of
--- our own: what the definitions that the contracts cite give. A word that a point leaves open is any word; negsuc k is -(k + 1).
--- proofs/KnownPoints.antt has the one proof of all. Assumes nothing.
+-- The known points of document 01 that form its table, those marked with a star there, and points of our own: what the definitions that
+-- the contracts cite give. A word that a point leaves open is any word; negsuc k is -(k + 1). proofs/KnownPoints.antt has the one proof of
+-- all. Assumes nothing.
 use mathlib.Core.Path.{_≡_}
-use mathlib.Core.Bool.{Bool, true, false}
+use mathlib.Core.Bool.{true, false}
 use mathlib.Core.List.{List, [], _∷_, _++_}
 use Prim.Native.Nat.{ℕ, zero, suc, _+_, _-_, _*_, _^_, _<_}
 use lib.IntN.{ℤ, pos, negsuc}
-use lib.ListN.{length, take, drop, set, replicate}
-use Rattle.read_list.specs.Entries.{entry}
+use lib.ListN.{take, drop, replicate}
 use Rattle.signed.specs.Vectors.{squareSum}
-use Rattle.exponential.specs.Exponential.{polynomialEntry, polynomial, reciprocal, divisor, limit, attemptLimit, exp, expWith, expOrRefusal}
+use Rattle.exponential.specs.Exponential.{polynomial, reciprocal, divisor, limit, attemptLimit, exp, expWith, expOrRefusal}
 use Rattle.base_sample.specs.BaseSample.{isCdt, baseSample}
 use Rattle.known_points.specs.EvenThresholds.{evenThresholds}
 use Rattle.attempt.specs.Attempt.{size, exponent, drawAt, lowBitsAt, negativeAt, bitAt, sampleAt}
-use Rattle.sampler.specs.Draw.{drawEntries}
 use Rattle.challenge.specs.Product.{product}
-use Rattle.acceptance.specs.Acceptance.{squaresLimit, normLimit, coshPasses}
-use Rattle.response.specs.Response.{noiseBound, responseBound, subtracts, responseZ, responseBit, respondEntries}
-use Rattle.refusals.specs.Refusals.{openRefusal, drawRefusal, respondRefusal}
+use Rattle.acceptance.specs.Acceptance.{squaresLimit, coshPasses}
+use Rattle.response.specs.Response.{responseBound, subtracts, responseZ, responseBit}
 
 -- ** What the points are about
 
@@ -54,14 +51,6 @@ oneToFour = pos 1 ∷ pos 2 ∷ pos 3 ∷ pos 4 ∷ []
 abbrev pub withZeros : (value : ℤ) → List ℤ
 withZeros value = value ∷ replicate 7 (pos 0)
 
--- the refusal of a draw at degree 4, over a y of 8 values
-abbrev pub drawOf4 : (limit : ℕ) (cdt table : List ℕ) (words list : ℕ) → ℕ
-drawOf4 limit cdt table words list = drawRefusal 4 limit cdt table words 8 list
-
--- the refusal of a respond at degree 4, over a z of 8 values, with three words
-abbrev pub respondOf4 : (drawn : Bool) (challenge : List ℕ) (key y : List ℤ) (list : ℕ) → ℕ
-respondOf4 drawn challenge key y list = respondRefusal 4 drawn challenge polynomial 3 key y 8 list
-
 -- ** The points
 
 pub record KnownPoints : Type 0 where
@@ -93,82 +82,6 @@ pub record KnownPoints : Type 0 where
   -- e = 2 ^ 62 in the cosh test passes every word 2; e = 0 passes none
   pub cosh-at-one : (word₂ : ℕ) → coshPasses (2 ^ 62) word₂ ≡ true
   pub cosh-at-zero : (word₂ : ℕ) → coshPasses 0 word₂ ≡ false
-  --
-  -- ** Document 01: numbers in its text
-  -- the polynomial table has 21 words: entry 0 = entry 1 = 2 ^ 62, entry 19 = 37, entry 20 = 1
-  pub entries-21 : length polynomial ≡ 21
-  pub entry-0 : polynomialEntry 0 ≡ 2 ^ 62
-  pub entry-1 : polynomialEntry 1 ≡ 2 ^ 62
-  pub entry-19 : polynomialEntry 19 ≡ 37
-  pub entry-20 : polynomialEntry 20 ≡ 1
-  -- 5,916,800 = 64 * 92,450, and 92,450 = 2 * 215 ^ 2
-  pub divisor-by-64 : divisor ≡ 64 * 92450
-  pub twice-215-squared : 92450 ≡ 2 * 215 ^ 2
-  -- 165,688,384 = 12,872 ^ 2
-  pub norm-limit : normLimit ≡ 12872 ^ 2
-  -- d high 2 ^ 62 - 1 has x = 10, and b goes to 255: so far go the values of y
-  pub noise-bound : noiseBound ≡ size 10 255
-  --
-  -- ** Document 01: the examples of its refusals, and those of its known points that are of lengths
-  pub refusal-1 : openRefusal 12 ≡ 1
-  pub refusal-2 : drawOf4 8 (take 19 evenThresholds) polynomial 32 370 ≡ 2
-  pub refusal-3 : drawOf4 8 (set evenThresholds 19 (2 ^ 62)) polynomial 32 370 ≡ 3
-  pub refusal-4 : drawOf4 8 evenThresholds (set polynomial 19 38) 32 370 ≡ 4
-  pub refusal-5 : drawOf4 7 evenThresholds polynomial 28 370 ≡ 5
-  pub refusal-6 : respondOf4 true (2 ∷ 2 ∷ []) (replicate 8 (pos 0)) (replicate 8 (pos 0)) 63 ≡ 6
-  pub refusal-7 : drawOf4 8 evenThresholds polynomial 31 370 ≡ 7
-  pub refusal-8 : drawOf4 8 evenThresholds polynomial 32 369 ≡ 8
-  pub refusal-9 : respondOf4 false (0 ∷ []) (replicate 8 (pos 0)) (replicate 8 (pos 0)) 55 ≡ 9
-  pub refusal-10 : respondOf4 true (0 ∷ []) (pos 8 ∷ replicate 7 (pos 0)) (replicate 8 (pos 0)) 55 ≡ 10
-  pub refusal-11 : respondOf4 true (0 ∷ []) (replicate 8 (pos 0)) (pos 2816 ∷ replicate 7 (pos 0)) 55 ≡ 11
-  pub refusal-12 : expOrRefusal 5534961 ≡ 2 ^ 63 + 12
-  -- a challenge that is empty, and one with a position n
-  pub refusal-6-empty : respondOf4 true [] (replicate 8 (pos 0)) (replicate 8 (pos 0)) 47 ≡ 6
-  pub refusal-6-position : respondOf4 true (4 ∷ []) (replicate 8 (pos 0)) (replicate 8 (pos 0)) 55 ≡ 6
-  -- of several that apply, the first
-  pub first-2 : drawOf4 7 (take 19 evenThresholds) (set polynomial 19 38) 0 0 ≡ 2
-  pub first-3 : drawOf4 7 (set evenThresholds 19 (2 ^ 62)) (set polynomial 19 38) 0 0 ≡ 3
-  pub first-4 : drawOf4 7 evenThresholds (set polynomial 19 38) 0 0 ≡ 4
-  pub first-5 : drawOf4 7 evenThresholds polynomial 0 0 ≡ 5
-  pub first-7 : drawOf4 8 evenThresholds polynomial 31 369 ≡ 7
-  pub first-6 : respondOf4 false (2 ∷ 2 ∷ []) (replicate 8 (pos 8)) (replicate 8 (pos 2816)) 0 ≡ 6
-  pub first-8 : respondOf4 false (0 ∷ []) (replicate 8 (pos 8)) (replicate 8 (pos 2816)) 54 ≡ 8
-  pub first-9 : respondOf4 false (0 ∷ []) (replicate 8 (pos 8)) (replicate 8 (pos 2816)) 55 ≡ 9
-  pub first-10 : respondOf4 true (0 ∷ []) (replicate 8 (pos 8)) (replicate 8 (pos 2816)) 55 ≡ 10
-  -- n = 4: L = 8 and 370 list entries are served, L = 128 with 5,890 too; L = 129 is refusal 5
-  pub served-8 : drawOf4 8 evenThresholds polynomial 32 370 ≡ 0
-  pub served-128 : drawOf4 128 evenThresholds polynomial 512 5890 ≡ 0
-  pub refused-129 : drawOf4 129 evenThresholds polynomial 516 5936 ≡ 5
-  -- one position: 55 entries are served, 54 are refusal 8; the largest values of key and y, of both signs, are served
-  pub served-55 : respondOf4 true (0 ∷ []) (pos 7 ∷ negsuc 6 ∷ replicate 6 (pos 0)) (pos 2815 ∷ negsuc 2814 ∷ replicate 6 (pos 0)) 55 ≡ 0
-  pub refused-54 : respondOf4 true (0 ∷ []) (replicate 8 (pos 0)) (replicate 8 (pos 0)) 54 ≡ 8
-  --
-  -- ** Document 01: read lists, written out
-  -- an entry is kind * 2 ^ 24 + place
-  pub entry-is : entry 1 4 ≡ 16777220
-  -- a draw of one attempt, which is accepted
-  pub draw-list : drawEntries 4 (true ∷ [])
-      ≡ entry 1 4 ∷ entry 2 0 ∷ entry 2 1 ∷ entry 2 2 ∷ entry 2 3
-      ∷ entry 3 0 ∷ entry 3 1 ∷ entry 3 2 ∷ entry 3 3 ∷ entry 3 4 ∷ entry 3 5 ∷ entry 3 6 ∷ entry 3 7 ∷ entry 3 8 ∷ entry 3 9
-      ∷ entry 3 10 ∷ entry 3 11 ∷ entry 3 12 ∷ entry 3 13 ∷ entry 3 14 ∷ entry 3 15 ∷ entry 3 16 ∷ entry 3 17 ∷ entry 3 18 ∷ entry 3 19
-      ∷ entry 4 20 ∷ entry 4 19 ∷ entry 4 18 ∷ entry 4 17 ∷ entry 4 16 ∷ entry 4 15 ∷ entry 4 14 ∷ entry 4 13 ∷ entry 4 12 ∷ entry 4 11
-      ∷ entry 4 10 ∷ entry 4 9 ∷ entry 4 8 ∷ entry 4 7 ∷ entry 4 6 ∷ entry 4 5 ∷ entry 4 4 ∷ entry 4 3 ∷ entry 4 2 ∷ entry 4 1 ∷ entry 4 0
-      ∷ entry 5 0 ∷ entry 6 1 ∷ []
-  -- the words of a second attempt, and the end of its list
-  pub second-words : take 5 (drop 47 (drawEntries 4 (true ∷ false ∷ []))) ≡ entry 2 4 ∷ entry 2 5 ∷ entry 2 6 ∷ entry 2 7 ∷ entry 3 0 ∷ []
-  pub second-end : drop 92 (drawEntries 4 (true ∷ false ∷ [])) ≡ entry 5 1 ∷ entry 6 1 ∷ []
-  -- an accepted response to the challenge 1
-  pub respond-list : respondEntries 4 true (1 ∷ [])
-      ≡ entry 7 4 ∷ entry 8 3 ∷ entry 8 0 ∷ entry 8 1 ∷ entry 8 2
-      ∷ entry 8 7 ∷ entry 8 4 ∷ entry 8 5 ∷ entry 8 6
-      ∷ entry 2 0 ∷ entry 2 1 ∷ entry 2 2
-      ∷ entry 4 20 ∷ entry 4 19 ∷ entry 4 18 ∷ entry 4 17 ∷ entry 4 16 ∷ entry 4 15 ∷ entry 4 14 ∷ entry 4 13 ∷ entry 4 12 ∷ entry 4 11
-      ∷ entry 4 10 ∷ entry 4 9 ∷ entry 4 8 ∷ entry 4 7 ∷ entry 4 6 ∷ entry 4 5 ∷ entry 4 4 ∷ entry 4 3 ∷ entry 4 2 ∷ entry 4 1 ∷ entry 4 0
-      ∷ entry 4 20 ∷ entry 4 19 ∷ entry 4 18 ∷ entry 4 17 ∷ entry 4 16 ∷ entry 4 15 ∷ entry 4 14 ∷ entry 4 13 ∷ entry 4 12 ∷ entry 4 11
-      ∷ entry 4 10 ∷ entry 4 9 ∷ entry 4 8 ∷ entry 4 7 ∷ entry 4 6 ∷ entry 4 5 ∷ entry 4 4 ∷ entry 4 3 ∷ entry 4 2 ∷ entry 4 1 ∷ entry 4 0
-      ∷ entry 9 1 ∷ []
-  -- a rejected one ends otherwise
-  pub rejected-end : drop 54 (respondEntries 4 false (1 ∷ [])) ≡ entry 9 0 ∷ []
   --
   -- ** Our own: base sample
   -- the tables of these points are CDT tables

@@ -1,3 +1,4 @@
 pub mod EvenThresholds
 pub mod KnownPoints
+pub mod Examples
 pub mod Demand3Instance
