@@ -24,10 +24,10 @@ use Rattle.challenge.specs.Product.{termAt, outputAt, outputsFrom, product, out
 use Rattle.acceptance.specs.Acceptance.{coshPasses, allPass, acceptsBy, acceptanceEntries}
 use Rattle.response.specs.Response.{responseOf, measuresOf, respondEntries, responseZ, responseBit, respondedBy}
 use Rattle.refusals.specs.Refusals.{openRefusal, drawRefusal, noiseRefusal, respondRefusal}
-use Rattle.session.specs.Calls.{opened, refusalOfDraw, bitsOfDraw, drawServed, drawLeft, refusalOfRespond, bitOfRespond, zOfRespond, respondServed, respondLeft}
+use Rattle.session.specs.Calls.{opened, refusalOfDraw, bitsOfDraw, drawServed, drawLeft, refusalOfRespond, bitOfRespond, zOfRespond, respondRefused, respondServed, respondLeft}
 use Rattle.session.specs.Histories.{draw, respond, leftBy, nextIn, entriesIn, Linked, readList, eventOf, history}
 use Rattle.session.specs.Demand3.{NoneRefused, AllAlike, Agreeing, seen}
-use Rattle.known_points.specs.Demand3Instance.{fives, drawOver, drawing, rejecting, responding, callsOver, calls, calls′, callsRejecting, start, drawnAndAnswered, Demand3Instance}
+use Rattle.known_points.specs.Demand3Instance.{fives, drawOver, drawing, rejecting, responding, callsOver, calls, calls′, callsRejecting, refusedRespond, callsRefused, start, drawnAndAnswered, Demand3Instance}
 use Rattle.session.proofs.Demand3.{demand3}
 
 -- ** Agreement where the words that differ are not read
@@ -67,9 +67,12 @@ agree-on-first first rest rest′ cdt table key list h e m = record {
 tells-apart : (bits bits′ : List Bool) → drawnAndAnswered (true ∷ bits) ≡ drawnAndAnswered (false ∷ bits′) → ⊥
 tells-apart bits bits′ e = let z : _≡_ {A = ℕ} 0 1 = cc in omega arith
 
+nonzero : _≡_ {A = ℕ} 2 0 → ⊥
+nonzero h = omega arith
+
 -- what the calls do is computed
 pub demand3-instance : Demand3Instance
-unfolding callsOver callsRejecting rejecting drawing responding drawOver fives evenThresholds thresholdsFrom opened openRefusal leftBy drawLeft
+unfolding callsOver callsRejecting callsRefused refusedRespond respondRefused rejecting drawing responding drawOver fives evenThresholds thresholdsFrom opened openRefusal leftBy drawLeft
     drawServed refusalOfDraw drawRefusal bitsOfDraw respondLeft respondServed refusalOfRespond respondRefusal noiseRefusal bitOfRespond Linked
     NoneRefused AllAlike Agreeing history eventOf wordsBelow unless isDegree among allBelow isCdt wordsSmall neverFalls
     isPolynomial sameWords polynomial polynomialFrom factorial isChallenge arePositions positionsBelow ascends allWithin drawBits bitsFrom
@@ -87,6 +90,7 @@ demand3-instance =
       agree-on-first (fives 8) (replicate 32 0) (replicate 32 7) evenThresholds polynomial [] (entriesIn (leftBy start (draw (drawing 0 (pos 0) 0)))) refl,
       (agree-on-first (0 ∷ 0 ∷ 0 ∷ []) (0 ∷ []) (7 ∷ []) [] polynomial (responding 0 (pos 0) 0 .key) (entriesIn (leftBy (nextIn (leftBy start (draw (drawing 0 (pos 0) 0)))) (respond (responding 0 (pos 0) 0)))) refl, tt),
     ) in
+    let linked-refused : Linked start (replicate 8 (pos 0)) callsRefused = ((λ h. refl), ((λ h. absurd (nonzero h)), ((λ h. refl), tt))) in
     let linked-rejecting : Linked start (replicate 8 (pos 0)) callsRejecting = ((λ h. refl), ((λ h. refl), tt)) in
     let same = demand3 4 4 (replicate 8 (pos 0)) (replicate 8 (pos 1)) calls calls′ linked linked′ .1 refl none-refused none-refused′ alike agreeing in
     let told = demand3 4 4 (replicate 8 (pos 0)) (replicate 8 (pos 0)) calls callsRejecting linked linked-rejecting .0 .0 in
@@ -104,6 +108,9 @@ demand3-instance =
       reads-are = refl;
       history-is = refl;
       history-is′ = refl;
+      linked-refused = linked-refused;
+      history-is-refused = refl;
+      reads-same-refused = demand3 4 4 (replicate 8 (pos 0)) (replicate 8 (pos 0)) callsRefused calls linked-refused linked .0 .1 refl;
       linked-rejecting = linked-rejecting;
       none-refused-rejecting = (refl, (refl, tt));
       history-is-rejecting = refl;

@@ -1,6 +1,6 @@
 -- The numbers and examples of document 01, computed. Assumes nothing.
 use mathlib.Core.Path.{refl}
-use Rattle.read_list.specs.Entries.{placesUp, placesDown}
+use Rattle.read_list.specs.Entries.{placesUp, placesDown, filledPart}
 use Rattle.checks.specs.Checks.{among, isDegree, allBelow, unless}
 use Rattle.signed.specs.Vectors.{allWithin}
 use Rattle.exponential.specs.Exponential.{factorial, entriesFrom as polynomialFrom, polynomial, sameWords, isPolynomial, expOrRefusal}
@@ -18,7 +18,7 @@ use Rattle.known_points.specs.Examples.{Examples}
 pub examples : Examples
 unfolding polynomial polynomialFrom factorial expOrRefusal evenThresholds thresholdsFrom openRefusal drawRefusal respondRefusal noiseRefusal unless isDegree
     among allBelow isCdt wordsSmall neverFalls isPolynomial sameWords isChallenge arePositions positionsBelow ascends allWithin drawEntries entriesFrom
-    attemptEntries placesUp placesDown respondEntries productEntries outputEntriesFrom outputEntries acceptanceEntries
+    attemptEntries placesUp placesDown filledPart respondEntries productEntries outputEntriesFrom outputEntries acceptanceEntries
 examples = record {
   entries-21 = refl;
   entry-0 = refl;
@@ -41,6 +41,10 @@ examples = record {
   refusal-10 = refl;
   refusal-11 = refl;
   refusal-12 = refl;
+  degrees-served = refl;
+  degrees-refused = refl;
+  refusal-3-falls = refl;
+  equal-thresholds = refl;
   refusal-6-empty = refl;
   refusal-6-position = refl;
   first-2 = refl;
@@ -57,6 +61,9 @@ examples = record {
   refused-129 = refl;
   served-55 = refl;
   refused-54 = refl;
+  filled-part = refl;
+  filled-whole = refl;
+  filled-over = refl;
   entry-is = refl;
   draw-list = refl;
   second-words = refl;

@@ -1,5 +1,5 @@
--- Demand 3 at degree 4: two lists of calls that are lent different words at places that are not read, and a third with another history.
--- Assumes nothing.
+-- Demand 3 at degree 4: two lists of calls that are lent different words at places that are not read, one with a refused call among them, and
+-- one with another history. Assumes nothing.
 use mathlib.Core.Path.{_≡_}
 use mathlib.Core.Bool.{Bool, true, false}
 use mathlib.Core.List.{List, [], _∷_, _++_}
@@ -62,6 +62,14 @@ calls′ = callsOver 7 (pos 1) 9
 unfoldable pub callsRejecting : List Call
 callsRejecting = draw rejecting ∷ respond (responding 0 (pos 0) 0) ∷ []
 
+-- a respond over a y of one value, its own, which is refused
+unfoldable pub refusedRespond : Respond
+refusedRespond = record { challenge = 0 ∷ 2 ∷ []; polynomial = polynomial; words = []; key = []; y = pos 3 ∷ []; z = []; list = [] }
+
+-- the first list with such a respond between its calls
+unfoldable pub callsRefused : List Call
+callsRefused = draw (drawing 0 (pos 0) 0) ∷ respond refusedRespond ∷ respond (responding 0 (pos 0) 0) ∷ []
+
 -- the session of degree 4, just opened
 abbrev pub start : Session
 start = opened 4 .session
@@ -99,6 +107,10 @@ pub record Demand3Instance : Type 0 where
   -- the history of both
   pub history-is : history start calls ≡ drawnAndAnswered (replicate 8 true)
   pub history-is′ : history start calls′ ≡ drawnAndAnswered (replicate 8 true)
+  -- a refused call may lend any y, and adds nothing: the same history, and so by the first half the same read list
+  pub linked-refused : Linked start (replicate 8 (pos 0)) callsRefused
+  pub history-is-refused : history start callsRefused ≡ drawnAndAnswered (replicate 8 true)
+  pub reads-same-refused : readList start callsRefused ≡ readList start calls
   -- with another history, and so by the first half another read list
   pub linked-rejecting : Linked start (replicate 8 (pos 0)) callsRejecting
   pub none-refused-rejecting : NoneRefused start callsRejecting

@@ -4,10 +4,10 @@
 use mathlib.Core.Path.{_≡_}
 use mathlib.Core.Bool.{Bool, true, false}
 use mathlib.Core.List.{List, [], _∷_}
-use Prim.Native.Nat.{ℕ, _+_, _*_, _^_}
+use Prim.Native.Nat.{ℕ, _+_, _-_, _*_, _^_}
 use lib.IntN.{ℤ, pos, negsuc}
 use lib.ListN.{length, take, drop, set, replicate}
-use Rattle.read_list.specs.Entries.{entry}
+use Rattle.read_list.specs.Entries.{entry, filledPart}
 use Rattle.exponential.specs.Exponential.{polynomialEntry, polynomial, divisor, expOrRefusal}
 use Rattle.known_points.specs.EvenThresholds.{evenThresholds}
 use Rattle.attempt.specs.Attempt.{size}
@@ -55,6 +55,12 @@ pub record Examples : Type 0 where
   pub refusal-10 : respondOf4 true (0 ∷ []) (pos 8 ∷ replicate 7 (pos 0)) (replicate 8 (pos 0)) 55 ≡ 10
   pub refusal-11 : respondOf4 true (0 ∷ []) (replicate 8 (pos 0)) (pos 2816 ∷ replicate 7 (pos 0)) 55 ≡ 11
   pub refusal-12 : expOrRefusal 5534961 ≡ 2 ^ 63 + 12
+  -- the degrees at the ends, and the powers of two next to them
+  pub degrees-served : openRefusal 4 ∷ openRefusal 1024 ∷ [] ≡ 0 ∷ 0 ∷ []
+  pub degrees-refused : openRefusal 0 ∷ openRefusal 2 ∷ openRefusal 2048 ∷ [] ≡ 1 ∷ 1 ∷ 1 ∷ []
+  -- a last threshold that falls; equal ones are served
+  pub refusal-3-falls : drawOf4 8 (set evenThresholds 18 (9 * 2 ^ 40 - 1)) polynomial 32 370 ≡ 3
+  pub equal-thresholds : drawOf4 8 (replicate 20 0) polynomial 32 370 ≡ 0
   -- a challenge that is empty, and one with a position n
   pub refusal-6-empty : respondOf4 true [] (replicate 8 (pos 0)) (replicate 8 (pos 0)) 47 ≡ 6
   pub refusal-6-position : respondOf4 true (4 ∷ []) (replicate 8 (pos 0)) (replicate 8 (pos 0)) 55 ≡ 6
@@ -77,6 +83,10 @@ pub record Examples : Type 0 where
   pub refused-54 : respondOf4 true (0 ∷ []) (replicate 8 (pos 0)) (replicate 8 (pos 0)) 54 ≡ 8
   --
   -- ** Read lists, written out
+  -- the filled part, up to the count; over the list's length it is empty
+  pub filled-part : filledPart (7 ∷ 8 ∷ 9 ∷ []) 2 ≡ 7 ∷ 8 ∷ []
+  pub filled-whole : filledPart (7 ∷ 8 ∷ 9 ∷ []) 3 ≡ 7 ∷ 8 ∷ 9 ∷ []
+  pub filled-over : filledPart (7 ∷ 8 ∷ 9 ∷ []) 4 ≡ []
   -- an entry is kind * 2 ^ 24 + place
   pub entry-is : entry 1 4 ≡ 16777220
   -- a draw of one attempt, which is accepted
