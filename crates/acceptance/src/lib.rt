@@ -56,6 +56,6 @@ pub fn judged(table: &[u64], reciprocal: u64, m: Measures, list: &mut [u32], at:
     let e1 = exponential::exp_listed(table, reciprocal, first_exponent, list, at);
     let e2 = exponential::exp_listed(table, reciprocal, second_exponent, list, at + 21);
     let accepted = all_pass(m, e1, e2);
-    read_list::note(9, accepted as usize, list, at + 42);
+    read_list::note(read_list::BIT, accepted as usize, list, at + 42);
     accepted
 }

@@ -26,10 +26,10 @@ fn attempt_words(words: &[u64], place: usize, list: &mut [u32], at: usize) -> At
     requires { ⌜ (place + 4 ≤ length (now words)) × (place + 4 ≤ 2 ^ 24) × (at + 4 ≤ length (now list)) ⌝ }
     ensures { λ r. ⌜ (r .draw .high ≡ low62Of (getD (now (words .entry)) place 0)) × (r .draw .low ≡ low62Of (getD (now (words .entry)) (place + 1) 0)) × (r .third ≡ getD (now (words .entry)) (place + 2) 0) × (r .fourth ≡ getD (now (words .entry)) (place + 3) 0) × (now (list .exit) ≡ sets (now (list .entry)) at (placesUp 2 place 4)) ⌝ }
 {
-    let first = read_list::listed_word(words, 2, place, list, at);
-    let second = read_list::listed_word(words, 2, place + 1, list, at + 1);
-    let third = read_list::listed_word(words, 2, place + 2, list, at + 2);
-    let fourth = read_list::listed_word(words, 2, place + 3, list, at + 3);
+    let first = read_list::listed_word(words, read_list::WORD, place, list, at);
+    let second = read_list::listed_word(words, read_list::WORD, place + 1, list, at + 1);
+    let third = read_list::listed_word(words, read_list::WORD, place + 2, list, at + 2);
+    let fourth = read_list::listed_word(words, read_list::WORD, place + 3, list, at + 3);
     let draw = Wide {
         high: arithmetic::low62(first),
         low: arithmetic::low62(second),
@@ -87,6 +87,6 @@ pub fn attempt(
     let x = base_sample::scan(cdt, w.draw, list, at + 4);
     let n = exponent_of(x, third);
     let e = exponential::exp_listed(table, reciprocal, n, list, at + 24);
-    read_list::note(5, k, list, at + 45);
+    read_list::note(read_list::ACCEPTED_BEFORE, k, list, at + 45);
     judged(e, x, third, w.fourth, y, k)
 }

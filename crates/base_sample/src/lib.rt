@@ -90,8 +90,8 @@ pub fn scan(cdt: &[u64], draw: Wide, list: &mut [u32], at: usize) -> u64
     while i < THRESHOLDS {
         let place = 2 * i;
         let here = at + place;
-        let high = read_list::listed_word(cdt, 3, place, list, here);
-        let low = read_list::listed_word(cdt, 3, place + 1, list, here + 1);
+        let high = read_list::listed_word(cdt, read_list::CDT, place, list, here);
+        let low = read_list::listed_word(cdt, read_list::CDT, place + 1, list, here + 1);
         x = x + 1 - below(draw, Wide { high, low });
         i += 1;
     }

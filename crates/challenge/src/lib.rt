@@ -77,9 +77,9 @@ fn term_at(
     ensures { λ r. ⌜ (r ≡ termAt (now (key .entry)) n base i c) × (now (list .exit) ≡ set (now (list .entry)) at (entry 8 (base + indexOf n i c))) ⌝ }
 {
     if c <= i {
-        return read_list::listed_value(key, 8, base + (i - c), list, at);
+        return read_list::listed_value(key, read_list::KEY, base + (i - c), list, at);
     }
-    let value = read_list::listed_value(key, 8, base + (i + n - c), list, at);
+    let value = read_list::listed_value(key, read_list::KEY, base + (i + n - c), list, at);
     0 - value
 }
 

@@ -85,7 +85,7 @@ fn evaluate_listed(table: &[u64], v: u64, list: &mut [u32], at: usize) -> u64
     let mut place = at;
     while 0 < j {
         j -= 1;
-        let entry = read_list::listed_word(table, 4, j, list, place);
+        let entry = read_list::listed_word(table, read_list::POLYNOMIAL, j, list, place);
         place += 1;
         a = next_value(entry, a, v);
     }

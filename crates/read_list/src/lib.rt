@@ -5,6 +5,33 @@ ghost use lib.ListN.{length, getD, set};
 ghost use lib.IntN.{pos};
 ghost use Rattle.read_list.specs.Entries.{entry, filledPart};
 
+// The kinds of entries, by what their places are: the degree of a draw;
+pub const DRAW: u32 = 1;
+
+// the place of a lent word;
+pub const WORD: u32 = 2;
+
+// the place of a word of the CDT table;
+pub const CDT: u32 = 3;
+
+// the place of an entry of the polynomial table;
+pub const POLYNOMIAL: u32 = 4;
+
+// the samples accepted before an attempt;
+pub const ACCEPTED_BEFORE: u32 = 5;
+
+// the samples accepted in all;
+pub const ACCEPTED: u32 = 6;
+
+// the degree of a response;
+pub const RESPONSE: u32 = 7;
+
+// the place of a key value;
+pub const KEY: u32 = 8;
+
+// and the bit of a response.
+pub const BIT: u32 = 9;
+
 // Writes the entry (kind, place) at the index `at` of a list; the rest of the list is unchanged.
 pub fn note(kind: u32, place: usize, list: &mut [u32], at: usize)
     requires { ⌜ (kind < 2 ^ 8) × (place < 2 ^ 24) × (at < length (now list)) ⌝ }

@@ -41,9 +41,9 @@ fn response_words(words: &[u64], list: &mut [u32], at: usize) -> ResponseWords
     requires { ⌜ (3 ≤ length (now words)) × (at + 3 ≤ length (now list)) ⌝ }
     ensures { λ r. ⌜ (r .first ≡ getD (now (words .entry)) 0 0) × (r .second ≡ getD (now (words .entry)) 1 0) × (r .third ≡ getD (now (words .entry)) 2 0) × (now (list .exit) ≡ sets (now (list .entry)) at (placesUp 2 0 3)) ⌝ }
 {
-    let first = read_list::listed_word(words, 2, 0, list, at);
-    let second = read_list::listed_word(words, 2, 1, list, at + 1);
-    let third = read_list::listed_word(words, 2, 2, list, at + 2);
+    let first = read_list::listed_word(words, read_list::WORD, 0, list, at);
+    let second = read_list::listed_word(words, read_list::WORD, 1, list, at + 1);
+    let third = read_list::listed_word(words, read_list::WORD, 2, list, at + 2);
     ResponseWords {
         first,
         second,
@@ -97,7 +97,7 @@ fn measured(
     ensures { λ _. ⌜ now (z .exit) ≡ responseZ (now (y .entry)) (product (now (key .entry)) degree (now (challenge .entry))) (now (words .entry)) ⌝ }
     ensures { λ _. ⌜ now (list .exit) ≡ sets (now (list .entry)) 0 (entry 7 degree ∷ (productEntries degree (now (challenge .entry)) ++ placesUp 2 0 3)) ⌝ }
 {
-    read_list::note(7, degree, list, 0);
+    read_list::note(read_list::RESPONSE, degree, list, 0);
     let squares = challenge::product_listed(key, degree, challenge, z, list, 1);
     let at = 1 + 2 * degree * challenge.len();
     let w = response_words(words, list, at);

@@ -31,7 +31,7 @@ pub fn draw(
     ensures { λ r. ⌜ record { counts = r; y = now (y .exit); list = now (list .exit) } ≡ sampledBy degree (now (cdt .entry)) (now (words .entry)) (drawBits (expScaled (now (table .entry)) reciprocal) (now (cdt .entry)) (now (words .entry)) limit (2 * degree)) (now (list .entry)) ⌝ }
 {
     let want = 2 * degree;
-    read_list::note(1, degree, list, 0);
+    read_list::note(read_list::DRAW, degree, list, 0);
     let mut t: usize = 0;
     let mut k: usize = 0;
     let mut at: usize = 1;
@@ -41,7 +41,7 @@ pub fn draw(
         at += attempt::ENTRIES;
         t += 1;
     }
-    read_list::note(6, k, list, at);
+    read_list::note(read_list::ACCEPTED, k, list, at);
     let entries = at + 1;
     let counts = Counts {
         attempts: t,
