@@ -84,20 +84,18 @@ pub fn respond_refusal(
     noise_refusal(drawn, key, y)
 }
 
-// The first of refusals 9 to 11 that applies, or 0. Key and y are looked at whole, whatever their values are.
+// The first of refusals 9 to 11 that applies, or 0. Key and y are looked at whole, and whether y is small is joined with whether the key is:
+// a branch on y alone would tell of y where the key is refused.
 fn noise_refusal(drawn: bool, key: &[i32], y: &[i32]) -> u32
     ensures { λ r. ⌜ r ≡ noiseRefusal drawn (now (key .entry)) (now (y .entry)) ⌝ }
 {
-    let key_small = signed::all_within(key, challenge::KEY_BOUND);
-    let y_small = signed::all_within(y, response::NOISE_BOUND);
     if !drawn {
         return 9;
     }
-    if !key_small {
-        return 10;
+    let key_small = signed::all_within(key, challenge::KEY_BOUND);
+    let y_small = signed::all_within(y, response::NOISE_BOUND);
+    if key_small & y_small {
+        return 0;
     }
-    if !y_small {
-        return 11;
-    }
-    0
+    10 + key_small as u32
 }

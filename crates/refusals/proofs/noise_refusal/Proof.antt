@@ -1,15 +1,39 @@
--- `refusals::noise_refusal` meets its contract. Assumes nothing.
+-- `refusals::noise_refusal` meets its contract: of two joined tests that fail, the first that does. Assumes nothing.
 use borrow.Author.Needs.{needs}
 use borrow.Author.Tests.{not-true, not-false}
-use mathlib.Core.Path.{_≡_}
-use mathlib.Core.Bool.{true}
-use Rattle.signed.specs.Vectors.{allWithin}
+use mathlib.Core.Path.{_≡_, refl}
+use mathlib.Core.Bool.{Bool, true, false, _&&_}
+use Prim.Native.Nat.{_+_, _<_, _^_}
+use native.Mathlib.Omega.{arith}
+use mir.Val.{boolByte}
 use Rattle.checks.specs.Checks.{unless}
-use Rattle.checks.proofs.Laws.{holds, fails}
-use Rattle.challenge.specs.Product.{keyBound}
 use Rattle.refusals.specs.Refusals.{noiseRefusal}
 use Rattle.refusals.proofs.noise_refusal.Statement.{statement}
 use Rattle.refusals.proofs.noise_refusal.Tie as tie
+
+both-small : (key y : Bool) → (key && y) ≡ true → 0 ≡ unless key 10 (unless y 11 0)
+unfolding unless
+both-small true true e = refl
+both-small true false e = cc
+both-small false y e = cc
+
+one-outside : (key y : Bool) → (key && y) ≡ false → 10 + boolByte key ≡ unless key 10 (unless y 11 0)
+unfolding unless
+one-outside true true e = cc
+one-outside true false e = refl
+one-outside false y e = refl
+
+number-small : (key : Bool) → 10 + boolByte key < 2 ^ 32
+number-small true = omega arith
+number-small false = omega arith
+
+-- ** Refusal 9
+
+returns : tie.Need-returns
+unfolding noiseRefusal unless
+returns c = rw (not-true (c .before .args .drawn) (c .if1 .taken))
+
+-- ** Refusals 10 and 11
 
 all-within-requires : tie.Need-all-within-requires
 all-within-requires c κs = search needs
@@ -17,27 +41,23 @@ all-within-requires c κs = search needs
 all-within-requires-2 : tie.Need-all-within-requires-2
 all-within-requires-2 c κs = search needs
 
-is-drawn : (c : tie.Else1) → c .before .before .before .args .drawn ≡ true
-is-drawn c = not-false _ (c .if1 .left)
-
-key-small : (c : tie.Else2) → allWithin keyBound (c .before .before .before .before .args .key .now) ≡ true
-key-small c = holds (c .before .before .before .all-within .ensures) (c .if2 .left)
-
-returns : tie.Need-returns
+-- drawn, the other two decide
+drawn-then : (c : tie.After-all-within2) → let a = c .before .before .before .args in
+    noiseRefusal (a .drawn) (a .key .now) (a .y .now) ≡ unless (c .before .all-within .result) 10 (unless (c .all-within2 .result) 11 0)
 unfolding noiseRefusal unless
-returns c = rw (not-true (c .before .before .before .args .drawn) (c .if1 .taken))
+drawn-then c = rw (c .before .all-within .ensures, c .all-within2 .ensures, not-false (c .before .before .before .args .drawn) (c .before .before .if1 .left))
 
 returns-2 : tie.Need-returns-2
-unfolding noiseRefusal unless
-returns-2 c = rw (is-drawn (c .before), fails (c .before .before .before .all-within .ensures) (c .if2 .taken))
+returns-2 c = rw (drawn-then (c .before)) (both-small (c .before .before .all-within .result) (c .before .all-within2 .result) (c .if2 .taken))
+
+cast-result : tie.Need-cast-result
+cast-result c = search needs
+
+add-result : tie.Need-add-result
+add-result c = record { fits = number-small (c .before .before .all-within .result) }
 
 returns-3 : tie.Need-returns-3
-unfolding noiseRefusal unless
-returns-3 c = let two = c .before in rw (is-drawn (two .before), key-small two, fails (two .before .before .all-within2 .ensures) (c .if3 .taken))
-
-returns-4 : tie.Need-returns-4
-unfolding noiseRefusal unless
-returns-4 c = let two = c .before in rw (is-drawn (two .before), key-small two, holds (two .before .before .all-within2 .ensures) (c .if3 .left))
+returns-3 c = rw (drawn-then (c .before)) (one-outside (c .before .before .all-within .result) (c .before .all-within2 .result) (c .if2 .left))
 
 pub noise-refusal-spec : {M : Type 1} → statement M
-noise-refusal-spec = tie.close (tie.spec all-within-requires all-within-requires-2 returns returns-2 returns-3 returns-4)
+noise-refusal-spec = tie.close (tie.spec returns all-within-requires all-within-requires-2 returns-2 cast-result add-result returns-3)
