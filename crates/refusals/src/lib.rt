@@ -97,5 +97,6 @@ fn noise_refusal(drawn: bool, key: &[i32], y: &[i32]) -> u32
     if key_small & y_small {
         return 0;
     }
+    // 11 where the key is small: then y is not.
     10 + key_small as u32
 }
