@@ -26,6 +26,6 @@ ascends challenge = allBelow (λ (k : ℕ). ltb (getD challenge k 0) (getD chall
 unfoldable pub arePositions : (n : ℕ) (challenge : List ℕ) → Bool
 arePositions n challenge = lengthFits n (length challenge) && (positionsBelow n challenge && ascends challenge)
 
--- whether they are a challenge: there is one
+-- whether they are a challenge: there is at least one
 unfoldable pub isChallenge : (n : ℕ) (challenge : List ℕ) → Bool
 isChallenge n challenge = ltb 0 (length challenge) && arePositions n challenge

@@ -35,7 +35,7 @@ outputsFrom key n base challenge i (suc count) = outputAt key n base i challenge
 unfoldable pub product : (key : List ℤ) (n : ℕ) (challenge : List ℕ) → List ℤ
 product key n challenge = outputsFrom key n 0 challenge 0 n ++ outputsFrom key n n challenge 0 n
 
--- the size of a key value at most, and that of an output
+-- the largest size of a key value, and of an output
 abbrev pub keyBound : ℕ
 keyBound = 7
 

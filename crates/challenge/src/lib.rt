@@ -9,7 +9,7 @@ ghost use Rattle.read_list.specs.Entries.{entry};
 ghost use Rattle.challenge.specs.Challenge.{positionsBelow, ascends, arePositions, isChallenge};
 ghost use Rattle.challenge.specs.Product.{keyBound, indexOf, termAt, outputAt, outputsFrom, product, Factors, outputEntries, outputEntriesFrom, productEntries};
 
-// The size of a key value at most.
+// The largest size of a key value.
 pub const KEY_BOUND: u32 = 7;
 
 // The most positions of a challenge, at any degree.

@@ -39,7 +39,7 @@ pub record Examples : Type 0 where
   pub twice-215-squared : 92450 ≡ 2 * 215 ^ 2
   -- 165,688,384 = 12,872 ^ 2
   pub norm-limit : normLimit ≡ 12872 ^ 2
-  -- d high 2 ^ 62 - 1 has x = 10, and b goes to 255: so far go the values of y
+  -- x goes to 10 and b to 255: the largest size of a sample is that of a value of y
   pub noise-bound : noiseBound ≡ size 10 255
   --
   -- ** Refusals, and lengths

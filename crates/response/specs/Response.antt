@@ -15,7 +15,7 @@ use Rattle.acceptance.specs.Acceptance.{acceptsBy, acceptanceEntries}
 
 -- ** The response
 
--- the size of a value of y at most, 256 * 10 + 255, and that of a value of z
+-- the largest size of a value of y, 256 * 10 + 255, and of a value of z
 abbrev pub noiseBound : ℕ
 noiseBound = 2815
 

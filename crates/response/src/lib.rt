@@ -14,7 +14,7 @@ ghost use Rattle.challenge.specs.Product.{outputBound, product, Factors, produc
 ghost use Rattle.response.specs.Response.{noiseBound, responseBound, subtracts, responseOf, measuresOf, responseZ, responseBit, respondListLength, respondedBy};
 use acceptance::Measures;
 
-// The size of a value of y at most.
+// The largest size of a value of y.
 pub const NOISE_BOUND: u32 = 2815;
 
 // The answer of a response: its bit, and the entries listed.

@@ -1,12 +1,13 @@
 -- `challenge::is_challenge` meets its contract. Assumes nothing.
 use borrow.Author.Needs.{needs}
 use borrow.Author.Tests.{eq-eqb, ne-eqb, ltb-true, ltb-false}
-use mathlib.Core.Path.{_≡_, refl}
-use mathlib.Core.Bool.{Bool, true, false, not}
+use mathlib.Core.Path.{_≡_, refl, ap}
+use mathlib.Core.Bool.{Bool, true, false, not, _&&_}
 use Prim.Native.Nat.{ℕ}
 use native.Mathlib.Omega.{arith}
 use lib.Dec.{ltb, eqb}
-use Rattle.challenge.specs.Challenge.{isChallenge}
+use lib.ListN.{length}
+use Rattle.challenge.specs.Challenge.{arePositions, isChallenge}
 use Rattle.challenge.proofs.is_challenge.Statement.{statement}
 use Rattle.challenge.proofs.is_challenge.Tie as tie
 
@@ -22,7 +23,9 @@ are-positions-requires c κs = search needs
 
 returns : tie.Need-returns
 unfolding isChallenge
-returns c = rw (c .are-positions .ensures, some-not-none)
+returns c =
+    let a = c .before .before .args in
+    rw (c .are-positions .ensures) (ap (λ (t : Bool). t && arePositions (a .n) (a .challenge .now)) (some-not-none (length (a .challenge .now))))
 
 pub is-challenge-spec : {M : Type 1} → statement M
 is-challenge-spec = tie.close (tie.spec are-positions-requires returns)
