@@ -1,1 +1,2 @@
 pub mod Served
+pub mod FirstRefusal

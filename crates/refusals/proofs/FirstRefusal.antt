@@ -1,0 +1,121 @@
+-- The refusals of Refusals are the first that apply, by document 01's table. Assumes nothing.
+use mathlib.Core.Path.{_≡_, refl, sym, ap, _∙_}
+use mathlib.Core.Bool.{Bool, true, false, _&&_, false≢true}
+use mathlib.Core.List.{List, [], _∷_}
+use mathlib.Core.Logic.{_⊎_, _≢_}
+use Prim.Native.Nat.{ℕ, zero, suc, _+_, _-_, _*_, _/_, _^_, _≤_, _<_}
+use native.Mathlib.Omega.{arith}
+use lib.Dec.{leb, ltb, eqb}
+use lib.IntN.{ℤ, pos, natAbs}
+use lib.ListN.{length, getD}
+use lib.Seq.{ext-getD}
+use borrow.Author.Tests.{eqb-true, leb-false}
+use Rattle.signed.specs.Vectors.{allWithin}
+use Rattle.signed.proofs.Vectors.{within-at}
+use Rattle.checks.specs.Checks.{isDegree, allBelow}
+use Rattle.checks.specs.RefusalTable.{Somewhere}
+use Rattle.checks.proofs.Laws.{both-true, all-at}
+use Rattle.checks.proofs.RefusalTable.{FailsWhere, refuses, fails-unequal, fails-above, fails-from, fails-either, fails-somewhere, fails-no-degree}
+use Rattle.exponential.specs.Exponential.{factorial, polynomialEntry, entriesFrom, polynomial, isPolynomial}
+use Rattle.exponential.proofs.Table.{table-at, polynomial-of, is-polynomial}
+use Rattle.base_sample.specs.BaseSample.{threshold, wordsSmall, neverFalls, isCdt}
+use Rattle.challenge.specs.Challenge.{lengthFits, positionsBelow, ascends, arePositions, isChallenge}
+use Rattle.refusals.specs.Refusals.{openRefusal, drawRefusal, noiseRefusal, respondRefusal}
+use Rattle.refusals.specs.FirstRefusal.{NoCdt, NoPolynomial, TooMany, NoPositions, Outside, OpeningRefuses, DrawRefuses, RespondRefuses}
+
+-- ** The tests of single lines
+
+fails-no-cdt : (cdt : List ℕ) → FailsWhere (isCdt cdt) (NoCdt cdt)
+unfolding isCdt wordsSmall neverFalls
+fails-no-cdt cdt =
+    fails-either (fails-somewhere _ _ (λ i. fails-from (getD cdt i 0) (2 ^ 62)) 20)
+    (fails-somewhere _ _ (λ i. fails-above (threshold cdt i) (threshold cdt (suc i))) 9)
+
+-- a table of 21 words whose entries are all right is the polynomial table
+module _ (table : List ℕ) (l : length table ≡ 21) where
+  entryRight : ℕ → Bool
+  entryRight j = eqb (getD table j 0) (polynomialEntry j)
+
+  entry-tested : (j : ℕ) → FailsWhere (entryRight j) (getD table j 0 ≢ polynomialEntry j)
+  unfolding entryRight
+  entry-tested j = fails-unequal (getD table j 0) (polynomialEntry j)
+
+  all-right : allBelow entryRight 21 ≡ true → table ≡ polynomial
+  unfolding entryRight polynomial entriesFrom
+  all-right e = ext-getD 0 table polynomial l (λ j h. let b : j < 21 = rw l at h in eqb-true (getD table j 0) (polynomialEntry j) (all-at entryRight j 21 b e) ∙ sym (table-at j b))
+
+  fails-no-polynomial : FailsWhere (isPolynomial table) (NoPolynomial table)
+  fails-no-polynomial = record {
+    fails = λ e. by e (allBelow entryRight 21) refl;
+    holds = λ e s. s .there (ap (λ (t : List ℕ). getD t (s .place) 0) (polynomial-of table e) ∙ table-at (s .place) (s .within));
+  }
+    where
+      by : isPolynomial table ≡ false → (t : Bool) → allBelow entryRight 21 ≡ t → NoPolynomial table
+      by e true f = absurd (false≢true (sym e ∙ sym (is-polynomial table (all-right f))))
+      by e false f = fails-somewhere entryRight _ entry-tested 21 .fails f
+
+fails-outside : (bound : ℕ) (values : List ℤ) → FailsWhere (allWithin bound values) (Outside bound values)
+unfolding allWithin
+fails-outside bound values = record {
+  fails = somewhere values;
+  holds = λ e s. let h = within-at bound values e (s .place) in let g = s .there in omega arith;
+}
+  where
+    by : (v : ℤ) (values : List ℤ) → (allWithin bound values ≡ false → Outside bound values) → (t : Bool) → leb (natAbs v) bound ≡ t → (t && allWithin bound values) ≡ false → Outside bound (v ∷ values)
+    by v values later true f e = let s = later e in record { place = suc (s .place); within = omega (arith, s .within); there = s .there }
+    by v values later false f e = record { place = 0; within = omega arith; there = leb-false (natAbs v) bound f }
+
+    somewhere : (values : List ℤ) → allWithin bound values ≡ false → Outside bound values
+    somewhere [] e = absurd (false≢true (sym e))
+    somewhere (v ∷ values) e = by v values (somewhere values) (leb (natAbs v) bound) refl e
+
+fails-no-challenge : (n : ℕ) (challenge : List ℕ) → FailsWhere (isChallenge n challenge) ((length challenge ≡ 0) ⊎ TooMany n (length challenge) ⊎ NoPositions n challenge)
+unfolding isChallenge arePositions positionsBelow ascends
+fails-no-challenge n challenge =
+    let count = length challenge in
+    fails-either fails-empty
+    (fails-either (fails-either (fails-above count 64) (fails-above count n))
+    (fails-either
+    (fails-somewhere _ _ (λ k. fails-from (getD challenge k 0) n) count)
+    (fails-somewhere _ _ (λ k. fails-from (getD challenge k 0) (getD challenge (suc k) 0)) (count - 1))))
+  where
+    fails-empty : FailsWhere (ltb 0 (length challenge)) (length challenge ≡ 0)
+    fails-empty = let f = fails-from 0 (length challenge) in record { fails = λ e. let h = f .fails e in omega arith; holds = λ e none. f .holds e (omega arith) }
+
+-- ** The table
+
+pub opening-refuses : (n : ℕ) → OpeningRefuses n (openRefusal n)
+unfolding openRefusal
+opening-refuses n = refuses 1 0 (fails-no-degree n) (λ e. refl)
+
+pub draw-refuses : (n limit : ℕ) (cdt table : List ℕ) (words y list : ℕ) → DrawRefuses n limit cdt table words y list (drawRefusal n limit cdt table words y list)
+unfolding drawRefusal
+draw-refuses n limit cdt table words y list =
+    refuses 1 _ (fails-no-degree n) (λ p1.
+    refuses 2 _ (fails-either (fails-unequal (length cdt) 20) (fails-either (fails-unequal (length table) 21) (fails-unequal y (2 * n)))) (λ p2.
+    refuses 3 _ (fails-no-cdt cdt) (λ p3.
+    refuses 4 _ (fails-no-polynomial table (twenty-one p2)) (λ p4.
+    refuses 5 _ (fails-either (fails-above (2 * n) limit) (fails-above limit (32 * n))) (λ p5.
+    refuses 7 _ (fails-above (4 * limit) words) (λ p7.
+    refuses 8 _ (fails-above (46 * limit + 2) list) (λ p8. refl)))))))
+  where
+    twenty-one : (eqb (length cdt) 20 && (eqb (length table) 21 && eqb y (2 * n))) ≡ true → length table ≡ 21
+    twenty-one e = eqb-true (length table) 21 (both-true (eqb (length table) 21) _ (both-true (eqb (length cdt) 20) _ e .1) .0)
+
+pub respond-refuses : (n : ℕ) (drawn : Bool) (challenge table : List ℕ) (words : ℕ) (key y : List ℤ) (z list : ℕ)
+    → RespondRefuses n drawn challenge table words key y z list (respondRefusal n drawn challenge table words key y z list)
+unfolding respondRefusal noiseRefusal
+respond-refuses n drawn challenge table words key y z list =
+    refuses 1 _ (fails-no-degree n) (λ p1.
+    refuses 2 _
+    (fails-either (fails-unequal (length table) 21) (fails-either (fails-unequal (length y) (2 * n)) (fails-either (fails-unequal z (2 * n)) (fails-unequal (length key) (2 * n))))) (λ p2.
+    refuses 4 _ (fails-no-polynomial table (eqb-true (length table) 21 (both-true (eqb (length table) 21) _ p2 .0))) (λ p4.
+    refuses 6 _ (fails-no-challenge n challenge) (λ p6.
+    refuses 7 _ (fails-above 3 words) (λ p7.
+    refuses 8 _ (fails-above (2 * n * length challenge + 47) list) (λ p8.
+    refuses 9 _ fails-not-drawn (λ p9.
+    refuses 10 _ (fails-outside 7 key) (λ p10.
+    refuses 11 _ (fails-outside 2815 y) (λ p11. refl)))))))))
+  where
+    fails-not-drawn : FailsWhere drawn (drawn ≡ false)
+    fails-not-drawn = record { fails = λ e. e; holds = λ e not-drawn. false≢true (sym not-drawn ∙ e) }

@@ -1,0 +1,71 @@
+-- Document 01's table of refusals, line by line, as statements about the number that a call answers. Numbers and conditions are written out
+-- as the table has them, and not by the tests of Refusals. Assumes nothing.
+use mathlib.Core.Path.{_≡_}
+use mathlib.Core.Bool.{Bool, false}
+use mathlib.Core.List.{List}
+use mathlib.Core.Logic.{_⊎_, _≢_}
+use Prim.Native.Nat.{ℕ, suc, _+_, _-_, _*_, _/_, _^_, _≤_, _<_}
+use lib.IntN.{ℤ, pos, natAbs}
+use lib.ListN.{length, getD}
+use Rattle.checks.specs.RefusalTable.{Refuses, Serves, Somewhere, PowerOfTwo}
+use Rattle.exponential.specs.Exponential.{factorial}
+use Rattle.base_sample.specs.BaseSample.{threshold}
+
+-- ** When lines apply
+
+-- 1: n is not a power of two from 4 to 1,024
+abbrev pub NoDegree : (n : ℕ) → Type 0
+NoDegree n = PowerOfTwo n → ⊥
+
+-- 3: a CDT word is 2 ^ 62 or more, or a threshold is below the one before
+abbrev pub NoCdt : (cdt : List ℕ) → Type 0
+NoCdt cdt = Somewhere 20 (λ (i : ℕ). 2 ^ 62 ≤ getD cdt i 0) ⊎ Somewhere 9 (λ (i : ℕ). threshold cdt (suc i) < threshold cdt i)
+
+-- 4: a polynomial entry is not the whole part of 2 ^ 62 / j!
+abbrev pub NoPolynomial : (table : List ℕ) → Type 0
+NoPolynomial table = Somewhere 21 (λ (j : ℕ). getD table j 0 ≢ 2 ^ 62 / factorial j)
+
+-- 6: too many positions: more than 64 or than n
+abbrev pub TooMany : (n count : ℕ) → Type 0
+TooMany n count = (64 < count) ⊎ (n < count)
+
+-- 6: a position is n or more, or is not above the one before
+abbrev pub NoPositions : (n : ℕ) (challenge : List ℕ) → Type 0
+NoPositions n challenge =
+    Somewhere (length challenge) (λ (k : ℕ). n ≤ getD challenge k 0)
+    ⊎ Somewhere (length challenge - 1) (λ (k : ℕ). getD challenge (suc k) 0 ≤ getD challenge k 0)
+
+-- 10 and 11: a value is outside -bound to bound
+abbrev pub Outside : (bound : ℕ) (values : List ℤ) → Type 0
+Outside bound values = Somewhere (length values) (λ (i : ℕ). bound < natAbs (getD values i (pos 0)))
+
+-- ** The table, for each call: what it is lent and tests, and the number that it answers
+
+abbrev pub OpeningRefuses : (n : ℕ) (refusal : ℕ) → Type 0
+OpeningRefuses n = Refuses 1 (NoDegree n) Serves
+
+-- words, y and list are lengths
+abbrev pub DrawRefuses : (n limit : ℕ) (cdt polynomial : List ℕ) (words y list : ℕ) (refusal : ℕ) → Type 0
+DrawRefuses n limit cdt polynomial words y list =
+    Refuses 1 (NoDegree n)
+    (Refuses 2 ((length cdt ≢ 20) ⊎ (length polynomial ≢ 21) ⊎ (y ≢ 2 * n))
+    (Refuses 3 (NoCdt cdt)
+    (Refuses 4 (NoPolynomial polynomial)
+    (Refuses 5 ((limit < 2 * n) ⊎ (32 * n < limit))
+    (Refuses 7 (words < 4 * limit)
+    (Refuses 8 (list < 46 * limit + 2)
+    Serves))))))
+
+-- words, z and list are lengths
+abbrev pub RespondRefuses : (n : ℕ) (drawn : Bool) (challenge polynomial : List ℕ) (words : ℕ) (key y : List ℤ) (z list : ℕ) (refusal : ℕ) → Type 0
+RespondRefuses n drawn challenge polynomial words key y z list =
+    Refuses 1 (NoDegree n)
+    (Refuses 2 ((length polynomial ≢ 21) ⊎ (length y ≢ 2 * n) ⊎ (z ≢ 2 * n) ⊎ (length key ≢ 2 * n))
+    (Refuses 4 (NoPolynomial polynomial)
+    (Refuses 6 ((length challenge ≡ 0) ⊎ TooMany n (length challenge) ⊎ NoPositions n challenge)
+    (Refuses 7 (words < 3)
+    (Refuses 8 (list < 2 * n * length challenge + 47)
+    (Refuses 9 (drawn ≡ false)
+    (Refuses 10 (Outside 7 key)
+    (Refuses 11 (Outside 2815 y)
+    Serves))))))))
