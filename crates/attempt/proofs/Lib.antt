@@ -1,2 +1,3 @@
 pub mod AttemptLaws
 pub mod Agreement
+pub mod ByItsWords

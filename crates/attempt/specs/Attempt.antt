@@ -2,9 +2,10 @@
 use mathlib.Core.Path.{_≡_}
 use mathlib.Core.Bool.{Bool, true, not, cond, _&&_}
 use mathlib.Core.List.{List, [], _∷_, _++_}
+use mathlib.Core.Logic.{_↔_}
 use Prim.Native.Nat.{ℕ, _+_, _*_, _/_, _%_, _^_, _<_}
 use lib.Dec.{ltb, eqb}
-use lib.ListN.{length, getD}
+use lib.ListN.{length, getD, take, drop}
 use lib.IntN.{ℤ, pos, negℤ}
 use Rattle.arithmetic.specs.Words.{low62Of}
 use Rattle.read_list.specs.Entries.{entry, placesUp, placesDown}
@@ -53,6 +54,27 @@ bitAt e cdt words t = accepts e (baseSample cdt (drawAt words t)) (lowBitsAt wor
 -- the sample of attempt t
 unfoldable pub sampleAt : (cdt words : List ℕ) (t : ℕ) → ℤ
 sampleAt cdt words t = sample (baseSample cdt (drawAt words t)) (lowBitsAt words t) (negativeAt words t)
+
+-- ** What follows
+
+-- attempt t is attempt 0 over words 4t to 4t + 3 alone
+pub record ByItsWords (e : ℕ → ℕ) (cdt words : List ℕ) (t : ℕ) : Type 0 where
+  pub bit : bitAt e cdt words t ≡ bitAt e cdt (take 4 (drop (4 * t) words)) 0
+  pub sample : sampleAt cdt words t ≡ sampleAt cdt (take 4 (drop (4 * t) words)) 0
+
+abbrev pub AttemptByItsWords : Type 0
+AttemptByItsWords = (e : ℕ → ℕ) (cdt words : List ℕ) (t : ℕ) → ByItsWords e cdt words t
+
+-- attempt 0 over four words, of which the first two give x: its accept bit is 1 exactly when 62 of the last is below e(N), and not (size 0 and
+-- sign 1); its sample is the size, negative where the sign is 1
+pub record ByRule (e : ℕ → ℕ) (x third fourth : ℕ) (accepted : Bool) (value : ℤ) : Type 0 where
+  pub bit : (accepted ≡ true) ↔ ((fourth % 2 ^ 62 < e (third % 256 * (third % 256 + 512 * x))) × ((256 * x + third % 256 ≡ 0) × (third / 256 % 2 ≡ 1) → ⊥))
+  pub plus : third / 256 % 2 ≡ 0 → value ≡ pos (256 * x + third % 256)
+  pub minus : third / 256 % 2 ≡ 1 → value ≡ negℤ (pos (256 * x + third % 256))
+
+abbrev pub AttemptByRule : Type 0
+AttemptByRule = (e : ℕ → ℕ) (cdt : List ℕ) (first second third fourth : ℕ) → let words = first ∷ second ∷ third ∷ fourth ∷ [] in
+    ByRule e (baseSample cdt (first % 2 ^ 62 * 2 ^ 62 + second % 2 ^ 62)) third fourth (bitAt e cdt words 0) (sampleAt cdt words 0)
 
 -- ** What an attempt asks for
 

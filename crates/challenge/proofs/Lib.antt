@@ -4,3 +4,4 @@ pub mod ProductLaws
 pub mod ProductTells
 pub mod Agreement
 pub mod Modulo
+pub mod InOrder

@@ -1,3 +1,4 @@
 pub mod Challenge
 pub mod Product
 pub mod Modulo
+pub mod InOrder

@@ -1,7 +1,8 @@
 -- The exponential e(N) of document 01, in units of 2 ^ -62. Assumes nothing.
+use mathlib.Core.Path.{_≡_}
 use mathlib.Core.Bool.{Bool, true, false, cond, _&&_}
 use mathlib.Core.List.{List, [], _∷_}
-use Prim.Native.Nat.{ℕ, zero, suc, _+_, _-_, _*_, _/_, _^_}
+use Prim.Native.Nat.{ℕ, zero, suc, _+_, _-_, _*_, _/_, _^_, _≤_, _<_}
 use lib.Dec.{eqb, leb}
 use lib.ListN.{getD}
 
@@ -91,3 +92,13 @@ exp n = expWith polynomial divisor n
 -- the exponential by N alone: e(N), or refusal 12
 unfoldable pub expOrRefusal : ℕ → ℕ
 expOrRefusal n = cond (leb n limit) (exp n) (2 ^ 63 + 12)
+
+-- ** What follows
+
+-- up to 5,534,960 it is e(N), and above it refusal 12
+pub record Alone (n result : ℕ) : Type 0 where
+  pub up-to : n ≤ 5534960 → result ≡ exp n
+  pub above : 5534960 < n → result ≡ 2 ^ 63 + 12
+
+abbrev pub ExponentialAlone : Type 0
+ExponentialAlone = (n : ℕ) → Alone n (expOrRefusal n)

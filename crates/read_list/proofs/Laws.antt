@@ -4,11 +4,11 @@ use mathlib.Core.List.{List, [], _∷_, _++_, append-nil}
 use Prim.Native.Nat.{ℕ, zero, suc, _+_, _-_, _^_, _≤_, _<_}
 use native.Mathlib.Nat.{not-suc-le-zero, add-zero, zero-add, add-suc, suc-add}
 use native.Mathlib.Omega.{arith}
-use borrow.Author.Tests.{le-leb}
+use borrow.Author.Tests.{le-leb, lt-leb}
 use lib.Arith.{digits-div, digits-mod}
-use lib.ListN.{length, drop, set}
+use lib.ListN.{length, take, drop, set}
 use lib.Seq.{sets, sets-eq, length-sets, take-append-seam, drop-append-seam, drop-length}
-use Rattle.read_list.specs.Entries.{entry, kindOf, placeOf, placesUp, placesDown, filledPart}
+use Rattle.read_list.specs.Entries.{entry, kindOf, placeOf, placesUp, placesDown, filledPart, FilledUpTo}
 
 -- ** An entry taken apart
 
@@ -65,12 +65,20 @@ placesDown-end kind l i (suc j) h = absurd (not-suc-le-zero h)
 
 -- ** The filled part
 
--- what is written from the start of a list is its filled part for that count
-pub filled-written : (list es : List ℕ) → length es ≤ length list → filledPart (sets list 0 es) (length es) ≡ es
+pub filled-up-to : FilledUpTo
 unfolding filledPart
-filled-written list es h =
-    rw (length-sets list 0 es, le-leb (length es) (length list) h, sets-eq es list 0 (rw zero-add h))
-    (take-append-seam es (drop (0 + length es) list))
+filled-up-to list count = record {
+  up-to = λ h. rw (le-leb count (length list) h);
+  over = λ h. rw (lt-leb count (length list) h);
+}
+
+-- what is written from the start of a list
+pub take-written : (list es : List ℕ) → length es ≤ length list → take (length es) (sets list 0 es) ≡ es
+take-written list es h = rw (sets-eq es list 0 (rw zero-add h)) (take-append-seam es (drop (0 + length es) list))
+
+-- it is the filled part for that count
+pub filled-written : (list es : List ℕ) → length es ≤ length list → filledPart (sets list 0 es) (length es) ≡ es
+filled-written list es h = filled-up-to (sets list 0 es) (length es) .up-to (rw length-sets h) ∙ take-written list es h
 
 -- behind what is written from its start a list is unchanged
 pub rest-unwritten : (list es : List ℕ) → length es ≤ length list → drop (length es) (sets list 0 es) ≡ drop (length es) list

@@ -2,3 +2,4 @@ pub mod Passes
 pub mod RespondTells
 pub mod Left
 pub mod Agreement
+pub mod ByRule

@@ -2,3 +2,4 @@ pub mod DrawTells
 pub mod DrawLaws
 pub mod Agreement
 pub mod DrawStops
+pub mod DrawOrder

@@ -5,7 +5,7 @@ use mathlib.Core.List.{List, [], _∷_, _++_}
 use mathlib.Core.Logic.{_⊎_}
 use Prim.Native.Nat.{ℕ, zero, suc, _+_, _*_, _≤_, _<_}
 use lib.Dec.{eqb}
-use lib.ListN.{length, getD, take, replicate}
+use lib.ListN.{length, getD, take, drop, replicate}
 use lib.Seq.{sets}
 use lib.IntN.{ℤ, pos}
 use Rattle.arithmetic.specs.Words.{bit}
@@ -94,6 +94,25 @@ pub record Stops (bitOf : ℕ → Bool) (t limit want : ℕ) (bits : List Bool) 
 -- the bits of a draw are such
 abbrev pub DrawStops : Type 0
 DrawStops = (e : ℕ → ℕ) (cdt words : List ℕ) (limit want : ℕ) → Stops (bitAt e cdt words) 0 limit want (drawBits e cdt words limit want)
+
+-- the samples of accepted attempts, each behind those accepted before it
+pub record InOrder (sampleOf : ℕ → ℤ) (bits : List Bool) (y : List ℤ) : Type 0 where
+  pub as-many : length y ≡ accepted bits
+  pub each : (k : ℕ) → k < length bits → getD bits k false ≡ true → getD y (accepted (take k bits)) (pos 0) ≡ sampleOf k
+
+-- so y holds them after a draw that is full
+abbrev pub SamplesInOrder : Type 0
+SamplesInOrder = (cdt words : List ℕ) (want : ℕ) (bits : List Bool) → accepted bits ≡ want → InOrder (sampleAt cdt words) bits (drawY cdt words want bits)
+
+-- entries are those of a draw with these bits: the degree, each attempt with the samples accepted before it, and the accepted count
+pub record Listed (n : ℕ) (bits : List Bool) (entries : List ℕ) : Type 0 where
+  pub count : length entries ≡ 46 * length bits + 2
+  pub first : getD entries 0 0 ≡ entry 1 n
+  pub attempts : (k : ℕ) → k < length bits → take 46 (drop (46 * k + 1) entries) ≡ attemptEntries k (accepted (take k bits))
+  pub last : getD entries (46 * length bits + 1) 0 ≡ entry 6 (accepted bits)
+
+abbrev pub DrawLists : Type 0
+DrawLists = (n : ℕ) (bits : List Bool) → Listed n bits (drawEntries n bits)
 
 -- a draw lists no more
 abbrev pub DrawEntriesAtMost : Type 0

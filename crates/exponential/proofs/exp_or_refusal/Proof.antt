@@ -1,25 +1,21 @@
 -- `exponential::exp_or_refusal` meets its contract: the constant table is the polynomial table, and the constant is R. Assumes nothing.
 use borrow.Author.Needs.{needs}
-use borrow.Author.Tests.{lt-leb, le-leb}
-use mathlib.Core.Path.{_≡_, refl, _∙_}
-use Prim.Native.Nat.{ℕ, _+_, _^_, _≤_, _<_}
+use mathlib.Core.Path.{_≡_, refl, sym, _∙_}
+use Prim.Native.Nat.{ℕ, _≤_}
 use native.Mathlib.Omega.{arith}
 use Rattle.exponential.specs.Exponential.{factorial, entriesFrom, polynomial, expScaled, exp, limit, expOrRefusal}
 use Rattle.exponential.proofs.Table.{by-215}
+use Rattle.exponential.proofs.Alone.{exponential-alone}
 use Rattle.exponential.proofs.Steps.{exp-in-steps}
 use Rattle.exponential.proofs.exp_or_refusal.Statement.{statement}
 use Rattle.exponential.proofs.exp_or_refusal.Tie as tie
 
-refused : (n : ℕ) → limit < n → 2 ^ 63 + 12 ≡ expOrRefusal n
-unfolding expOrRefusal
-refused n h = simp (lt-leb n limit h)
-
 at-215 : (n : ℕ) → n ≤ limit → expScaled polynomial 3269134179596076729 n ≡ expOrRefusal n
-unfolding expOrRefusal exp
-at-215 n h = rw (by-215 polynomial, le-leb n limit h)
+unfolding exp
+at-215 n h = rw (by-215 polynomial) (sym (exponential-alone n .up-to h))
 
 returns : tie.Need-returns
-returns c = refused (c .before .args .n) (c .if1 .taken)
+returns c = sym (exponential-alone (c .before .args .n) .above (c .if1 .taken))
 
 mul-shift22-requires : tie.Need-mul-shift22-requires
 mul-shift22-requires c κs = search needs
