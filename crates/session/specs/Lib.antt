@@ -1,4 +1,6 @@
 pub mod Calls
 pub mod CallLaws
+pub mod ByRule
 pub mod Histories
 pub mod Demand3
+pub mod HistoryLaws
