@@ -2,7 +2,7 @@
 use mathlib.Core.Path.{refl}
 use Rattle.read_list.specs.Entries.{placesUp, placesDown, filledPart}
 use Rattle.checks.specs.Checks.{among, isDegree, allBelow, unless}
-use Rattle.signed.specs.Vectors.{allWithin}
+use Rattle.signed.specs.Vectors.{allWithin, squareSum, innerProduct}
 use Rattle.exponential.specs.Exponential.{factorial, entriesFrom as polynomialFrom, polynomial, sameWords, isPolynomial, expOrRefusal}
 use Rattle.base_sample.specs.BaseSample.{wordsSmall, neverFalls, isCdt}
 use Rattle.known_points.specs.EvenThresholds.{thresholdsFrom, evenThresholds}
@@ -13,12 +13,13 @@ use Rattle.challenge.specs.Product.{outputEntries, outputEntriesFrom, productEn
 use Rattle.acceptance.specs.Acceptance.{acceptanceEntries}
 use Rattle.response.specs.Response.{respondEntries}
 use Rattle.refusals.specs.Refusals.{openRefusal, drawRefusal, noiseRefusal, respondRefusal}
-use Rattle.known_points.specs.Examples.{Examples}
+use Rattle.known_points.specs.Examples.{openings, thresholdsOf, Examples}
 
 pub examples : Examples
 unfolding polynomial polynomialFrom factorial expOrRefusal evenThresholds thresholdsFrom openRefusal drawRefusal respondRefusal noiseRefusal unless isDegree
     among allBelow isCdt wordsSmall neverFalls isPolynomial sameWords isChallenge arePositions positionsBelow ascends allWithin drawEntries entriesFrom
     attemptEntries placesUp placesDown filledPart respondEntries productEntries outputEntriesFrom outputEntries acceptanceEntries
+    squareSum innerProduct openings thresholdsOf
 examples = record {
   entries-21 = refl;
   entry-0 = refl;
@@ -29,6 +30,9 @@ examples = record {
   twice-215-squared = refl;
   norm-limit = refl;
   noise-bound = refl;
+  ten-thresholds = refl;
+  inner-of-both-signs = refl;
+  squares-of-both-signs = refl;
   refusal-1 = refl;
   refusal-2 = refl;
   refusal-3 = refl;
@@ -42,20 +46,32 @@ examples = record {
   refusal-11 = refl;
   refusal-12 = refl;
   degrees-served = refl;
-  degrees-refused = refl;
+  below-degrees-refused = refl;
+  above-degrees-refused = refl;
+  other-powers-refused = refl;
+  refusal-2-y = refl;
+  respond-2-y = refl;
+  respond-2-z = refl;
+  respond-2-key = refl;
+  refusal-3-high = refl;
   refusal-3-falls = refl;
   equal-thresholds = refl;
   refusal-6-empty = refl;
   refusal-6-position = refl;
+  first-1 = refl;
   first-2 = refl;
   first-3 = refl;
   first-4 = refl;
   first-5 = refl;
   first-7 = refl;
-  first-6 = refl;
   first-8 = refl;
   first-9 = refl;
   first-10 = refl;
+  respond-first-1 = refl;
+  respond-first-2 = refl;
+  respond-first-4 = refl;
+  respond-first-6 = refl;
+  respond-first-7 = refl;
   served-8 = refl;
   served-128 = refl;
   refused-129 = refl;
@@ -69,5 +85,6 @@ examples = record {
   second-words = refl;
   second-end = refl;
   respond-list = refl;
+  respond-list-of-two = refl;
   rejected-end = refl;
 }

@@ -1,11 +1,11 @@
--- Demand 3 at degree 4: two lists of calls that are lent different words at places that are not read, one with a refused call among them, and
--- one with another history. Assumes nothing.
+-- Demand 3 at degree 4: two lists of calls that are lent different words at places that are not read, one with refused calls among them, one
+-- with another history, and lists of any number of calls. Assumes nothing.
 use mathlib.Core.Path.{_≡_}
 use mathlib.Core.Bool.{Bool, true, false}
 use mathlib.Core.List.{List, [], _∷_, _++_}
 use Prim.Native.Nat.{ℕ, zero, suc}
 use lib.IntN.{ℤ, pos, negsuc}
-use lib.ListN.{replicate}
+use lib.ListN.{take, replicate}
 use Rattle.exponential.specs.Exponential.{polynomial}
 use Rattle.known_points.specs.EvenThresholds.{evenThresholds}
 use Rattle.sampler.specs.Draw.{drawEntries}
@@ -17,10 +17,15 @@ use Rattle.session.specs.Demand3.{NoneRefused, AllAlike, Agreeing, Seen, sample
 
 -- ** What is lent
 
--- the words of so many attempts, each accepted with the sample 5: d is 0, the low bits are 5, the sign is 0, and u is 0
-unfoldable pub fives : (count : ℕ) → List ℕ
-fives zero = []
-fives (suc count) = 0 ∷ 0 ∷ 5 ∷ 0 ∷ fives count
+-- the words of so many attempts that are accepted with this sample, the next, and so on: d is 0, the low bits are the sample, the sign is
+-- 0, and u is 0
+unfoldable pub wordsOf : (sample count : ℕ) → List ℕ
+wordsOf sample zero = []
+wordsOf sample (suc count) = 0 ∷ 0 ∷ sample ∷ 0 ∷ wordsOf (suc sample) count
+
+-- the samples of such attempts
+unfoldable pub oneToEight : List ℤ
+oneToEight = pos 1 ∷ pos 2 ∷ pos 3 ∷ pos 4 ∷ pos 5 ∷ pos 6 ∷ pos 7 ∷ pos 8 ∷ []
 
 -- ** The calls
 
@@ -28,13 +33,17 @@ fives (suc count) = 0 ∷ 0 ∷ 5 ∷ 0 ∷ fives count
 unfoldable pub drawOver : (words : List ℕ) (y : List ℤ) (list : List ℕ) → Draw
 drawOver words y list = record { limit = 16; cdt = evenThresholds; polynomial = polynomial; words = words; y = y; list = list }
 
--- eight attempts, all accepted, and 32 words behind them that are not read
+-- eight attempts, all accepted, and 32 words behind them that are not read; y before it is y
+unfoldable pub drawingOver : (unread : ℕ) (y : List ℤ) (filler : ℕ) → Draw
+drawingOver unread y filler = drawOver (wordsOf 1 8 ++ replicate 32 unread) y (replicate 738 filler)
+
+-- the same over one value throughout
 unfoldable pub drawing : (unread : ℕ) (before : ℤ) (filler : ℕ) → Draw
-drawing unread before filler = drawOver (fives 8 ++ replicate 32 unread) (replicate 8 before) (replicate 738 filler)
+drawing unread before filler = drawingOver unread (replicate 8 before) filler
 
 -- nine attempts: the first, of size 0 and sign 1, is not accepted
 unfoldable pub rejecting : Draw
-rejecting = drawOver (0 ∷ 0 ∷ 256 ∷ 0 ∷ (fives 8 ++ replicate 28 0)) (replicate 8 (pos 0)) (replicate 738 0)
+rejecting = drawOver (0 ∷ 0 ∷ 256 ∷ 0 ∷ (wordsOf 1 8 ++ replicate 28 0)) (replicate 8 (pos 0)) (replicate 738 0)
 
 -- a respond to the challenge 0, 2, over the samples of such a draw, with a word behind the third that is not read
 unfoldable pub responding : (unread : ℕ) (before : ℤ) (filler : ℕ) → Respond
@@ -43,7 +52,7 @@ responding unread before filler = record {
   polynomial = polynomial;
   words = 0 ∷ 0 ∷ 0 ∷ unread ∷ [];
   key = pos 1 ∷ pos 0 ∷ negsuc 0 ∷ pos 2 ∷ pos 3 ∷ negsuc 1 ∷ pos 0 ∷ pos 1 ∷ [];
-  y = replicate 8 (pos 5);
+  y = oneToEight;
   z = replicate 8 before;
   list = replicate 63 filler;
 }
@@ -66,9 +75,17 @@ callsRejecting = draw rejecting ∷ respond (responding 0 (pos 0) 0) ∷ []
 unfoldable pub refusedRespond : Respond
 refusedRespond = record { challenge = 0 ∷ 2 ∷ []; polynomial = polynomial; words = []; key = []; y = pos 3 ∷ []; z = []; list = [] }
 
--- the first list with such a respond between its calls
+-- a draw over that y, which is refused too
+unfoldable pub refusedDraw : Draw
+refusedDraw = drawOver [] (pos 3 ∷ []) []
+
+-- the first list with both between its calls
 unfoldable pub callsRefused : List Call
-callsRefused = draw (drawing 0 (pos 0) 0) ∷ respond refusedRespond ∷ respond (responding 0 (pos 0) 0) ∷ []
+callsRefused = draw (drawing 0 (pos 0) 0) ∷ draw refusedDraw ∷ respond refusedRespond ∷ respond (responding 0 (pos 0) 0) ∷ []
+
+-- so many draws, each but the first over the y that the one before has drawn
+unfoldable pub draws : (unread filler count : ℕ) → List Call
+draws unread filler count = replicate count (draw (drawingOver unread oneToEight filler))
 
 -- the session of degree 4, just opened
 abbrev pub start : Session
@@ -79,14 +96,31 @@ abbrev pub drawnAndAnswered : (bits : List Bool) → List Event
 drawnAndAnswered bits = drew 4 bits ∷ answered 4 true (0 ∷ 2 ∷ []) ∷ []
 
 -- what the caller sees of the draw: full after eight attempts, and y
-abbrev pub drawnFives : Seen
-drawnFives = sampled (record { answer = record { refusal = 0; attempts = 8; accepted = 8; entries = 370 }; session = record { degree = 4; drawn = true } }) (replicate 8 (pos 5))
+abbrev pub drawnOneToEight : Seen
+drawnOneToEight = sampled (record { answer = record { refusal = 0; attempts = 8; accepted = 8; entries = 370 }; session = record { degree = 4; drawn = true } }) oneToEight
+
+-- of a draw over a drawn y that is refused by 2: y is drawn still
+abbrev pub drawRefusedBy2 : Seen
+drawRefusedBy2 = sampled (record { answer = record { refusal = 2; attempts = 0; accepted = 0; entries = 0 }; session = record { degree = 4; drawn = true } }) (pos 3 ∷ [])
+
+-- of a respond that is
+abbrev pub respondRefusedBy2 : Seen
+respondRefusedBy2 = answer (record { answer = record { refusal = 2; bit = false; entries = 0 }; session = record { degree = 4; drawn = true } }) (pos 3 ∷ []) []
 
 -- and of the respond: its bit is 1, y is all zero, and z
 abbrev pub answeredBy : (z : List ℤ) → Seen
 answeredBy z = answer (record { answer = record { refusal = 0; bit = true; entries = 63 }; session = record { degree = 4; drawn = false } }) (replicate 8 (pos 0)) z
 
 -- ** What demand 3 says of them
+
+-- all that the second half asks for, of so many draws
+pub record AnyNumber (count : ℕ) : Type 0 where
+  pub linked : Linked start oneToEight (draws 0 0 count)
+  pub linked′ : Linked start oneToEight (draws 7 9 count)
+  pub none-refused : NoneRefused start (draws 0 0 count)
+  pub none-refused′ : NoneRefused start (draws 7 9 count)
+  pub alike : AllAlike (draws 0 0 count) (draws 7 9 count)
+  pub agreeing : Agreeing start (draws 0 0 count) (draws 7 9 count)
 
 pub record Demand3Instance : Type 0 where
   -- all that the second half asks for
@@ -101,13 +135,14 @@ pub record Demand3Instance : Type 0 where
   -- what the second half gives
   pub seen-same : seen start calls ≡ seen start calls′
   pub reads-same : readList start calls ≡ readList start calls′
-  -- what both give: five eight times; then z, all of y + Sc, Sc being 2, -2, 0, 2 and 3, -3, 3, -1
-  pub seen-is : seen start calls ≡ drawnFives ∷ answeredBy (pos 7 ∷ pos 3 ∷ pos 5 ∷ pos 7 ∷ pos 8 ∷ pos 2 ∷ pos 8 ∷ pos 4 ∷ []) ∷ []
+  -- what both give: 1 to 8, in this order; then z, all of y + Sc, Sc being 2, -2, 0, 2 and 3, -3, 3, -1
+  pub seen-is : seen start calls ≡ drawnOneToEight ∷ answeredBy (pos 3 ∷ pos 0 ∷ pos 3 ∷ pos 6 ∷ pos 8 ∷ pos 3 ∷ pos 10 ∷ pos 7 ∷ []) ∷ []
   pub reads-are : readList start calls ≡ drawEntries 4 (replicate 8 true) ++ respondEntries 4 true (0 ∷ 2 ∷ [])
   -- the history of both
   pub history-is : history start calls ≡ drawnAndAnswered (replicate 8 true)
   pub history-is′ : history start calls′ ≡ drawnAndAnswered (replicate 8 true)
-  -- a refused call may lend any y, and adds nothing: the same history, and so by the first half the same read list
+  -- refused calls may lend any y, and add nothing: the same history, and so by the first half the same read list
+  pub seen-refused : take 3 (seen start callsRefused) ≡ drawnOneToEight ∷ drawRefusedBy2 ∷ respondRefusedBy2 ∷ []
   pub linked-refused : Linked start (replicate 8 (pos 0)) callsRefused
   pub history-is-refused : history start callsRefused ≡ drawnAndAnswered (replicate 8 true)
   pub reads-same-refused : readList start callsRefused ≡ readList start calls
@@ -116,3 +151,5 @@ pub record Demand3Instance : Type 0 where
   pub none-refused-rejecting : NoneRefused start callsRejecting
   pub history-is-rejecting : history start callsRejecting ≡ drawnAndAnswered (false ∷ replicate 8 true)
   pub reads-differ : readList start calls ≡ readList start callsRejecting → ⊥
+  -- any number of calls meet all that the second half asks for
+  pub any-number : (count : ℕ) → AnyNumber count

@@ -4,11 +4,13 @@
 use mathlib.Core.Path.{_≡_}
 use mathlib.Core.Bool.{Bool, true, false}
 use mathlib.Core.List.{List, [], _∷_}
-use Prim.Native.Nat.{ℕ, _+_, _-_, _*_, _^_}
+use Prim.Native.Nat.{ℕ, zero, suc, _+_, _-_, _*_, _^_}
 use lib.IntN.{ℤ, pos, negsuc}
 use lib.ListN.{length, take, drop, set, replicate}
-use Rattle.read_list.specs.Entries.{entry, filledPart}
+use Rattle.read_list.specs.Entries.{entry, placesUp, filledPart}
+use Rattle.signed.specs.Vectors.{squareSum, innerProduct}
 use Rattle.exponential.specs.Exponential.{polynomialEntry, polynomial, divisor, expOrRefusal}
+use Rattle.base_sample.specs.BaseSample.{threshold}
 use Rattle.known_points.specs.EvenThresholds.{evenThresholds}
 use Rattle.attempt.specs.Attempt.{size}
 use Rattle.sampler.specs.Draw.{drawEntries}
@@ -23,6 +25,16 @@ drawOf4 limit cdt table words list = drawRefusal 4 limit cdt table words 8 list
 -- the refusal of a respond at degree 4, over a z of 8 values, with three words
 abbrev pub respondOf4 : (drawn : Bool) (challenge : List ℕ) (key y : List ℤ) (list : ℕ) → ℕ
 respondOf4 drawn challenge key y list = respondRefusal 4 drawn challenge polynomial 3 key y 8 list
+
+-- the refusals of openings, one for each number
+unfoldable pub openings : (ns : List ℕ) → List ℕ
+openings [] = []
+openings (n ∷ ns) = openRefusal n ∷ openings ns
+
+-- count thresholds of a table, from threshold i on
+unfoldable pub thresholdsOf : (cdt : List ℕ) (i count : ℕ) → List ℕ
+thresholdsOf cdt i zero = []
+thresholdsOf cdt i (suc count) = threshold cdt i ∷ thresholdsOf cdt (suc i) count
 
 -- ** The examples
 
@@ -42,6 +54,14 @@ pub record Examples : Type 0 where
   -- x goes to 10 and b to 255: the largest size of a sample is that of a value of y
   pub noise-bound : noiseBound ≡ size 10 255
   --
+  -- ten thresholds, each by its own two words: the words are 0 to 19
+  pub ten-thresholds : thresholdsOf (placesUp 0 0 20) 0 10
+      ≡ 1 ∷ (2 * 2 ^ 62 + 3) ∷ (4 * 2 ^ 62 + 5) ∷ (6 * 2 ^ 62 + 7) ∷ (8 * 2 ^ 62 + 9)
+      ∷ (10 * 2 ^ 62 + 11) ∷ (12 * 2 ^ 62 + 13) ∷ (14 * 2 ^ 62 + 15) ∷ (16 * 2 ^ 62 + 17) ∷ (18 * 2 ^ 62 + 19) ∷ []
+  -- sums over products and values of both signs: 3 * 5 + 2 * -7 + -1 * 4 = -3, and 3 ^ 2 + 7 ^ 2 = 58
+  pub inner-of-both-signs : innerProduct (pos 3 ∷ pos 2 ∷ negsuc 0 ∷ []) (pos 5 ∷ negsuc 6 ∷ pos 4 ∷ []) ≡ negsuc 2
+  pub squares-of-both-signs : squareSum (pos 3 ∷ negsuc 6 ∷ []) ≡ 58
+  --
   -- ** Refusals, and lengths
   pub refusal-1 : openRefusal 12 ≡ 1
   pub refusal-2 : drawOf4 8 (take 19 evenThresholds) polynomial 32 370 ≡ 2
@@ -55,25 +75,39 @@ pub record Examples : Type 0 where
   pub refusal-10 : respondOf4 true (0 ∷ []) (pos 8 ∷ replicate 7 (pos 0)) (replicate 8 (pos 0)) 55 ≡ 10
   pub refusal-11 : respondOf4 true (0 ∷ []) (replicate 8 (pos 0)) (pos 2816 ∷ replicate 7 (pos 0)) 55 ≡ 11
   pub refusal-12 : expOrRefusal 5534961 ≡ 2 ^ 63 + 12
-  -- the degrees at the ends, and the powers of two next to them
-  pub degrees-served : openRefusal 4 ∷ openRefusal 1024 ∷ [] ≡ 0 ∷ 0 ∷ []
-  pub degrees-refused : openRefusal 0 ∷ openRefusal 2 ∷ openRefusal 2048 ∷ [] ≡ 1 ∷ 1 ∷ 1 ∷ []
+  -- all nine degrees; the neighbours of each, and the powers of two next to the ends
+  pub degrees-served : openings (4 ∷ 8 ∷ 16 ∷ 32 ∷ 64 ∷ 128 ∷ 256 ∷ 512 ∷ 1024 ∷ []) ≡ replicate 9 0
+  pub below-degrees-refused : openings (3 ∷ 7 ∷ 15 ∷ 31 ∷ 63 ∷ 127 ∷ 255 ∷ 511 ∷ 1023 ∷ []) ≡ replicate 9 1
+  pub above-degrees-refused : openings (5 ∷ 9 ∷ 17 ∷ 33 ∷ 65 ∷ 129 ∷ 257 ∷ 513 ∷ 1025 ∷ []) ≡ replicate 9 1
+  pub other-powers-refused : openings (0 ∷ 1 ∷ 2 ∷ 2048 ∷ []) ≡ replicate 4 1
+  -- a y of 7 values in a draw; a y, a z and a key of 7 values in a respond
+  pub refusal-2-y : drawRefusal 4 8 evenThresholds polynomial 32 7 370 ≡ 2
+  pub respond-2-y : respondRefusal 4 true (0 ∷ []) polynomial 3 (replicate 8 (pos 0)) (replicate 7 (pos 0)) 8 55 ≡ 2
+  pub respond-2-z : respondRefusal 4 true (0 ∷ []) polynomial 3 (replicate 8 (pos 0)) (replicate 8 (pos 0)) 7 55 ≡ 2
+  pub respond-2-key : respondRefusal 4 true (0 ∷ []) polynomial 3 (replicate 7 (pos 0)) (replicate 8 (pos 0)) 8 55 ≡ 2
+  -- a high word of 2 ^ 62
+  pub refusal-3-high : drawOf4 8 (set evenThresholds 18 (2 ^ 62)) polynomial 32 370 ≡ 3
   -- a last threshold that falls; equal ones are served
   pub refusal-3-falls : drawOf4 8 (set evenThresholds 18 (9 * 2 ^ 40 - 1)) polynomial 32 370 ≡ 3
   pub equal-thresholds : drawOf4 8 (replicate 20 0) polynomial 32 370 ≡ 0
   -- a challenge that is empty, and one with a position n
   pub refusal-6-empty : respondOf4 true [] (replicate 8 (pos 0)) (replicate 8 (pos 0)) 47 ≡ 6
   pub refusal-6-position : respondOf4 true (4 ∷ []) (replicate 8 (pos 0)) (replicate 8 (pos 0)) 55 ≡ 6
-  -- of several that apply, the first
+  -- of several that apply, the first; each with all the later ones
+  pub first-1 : drawRefusal 12 7 (take 19 evenThresholds) (set polynomial 19 38) 0 8 0 ≡ 1
   pub first-2 : drawOf4 7 (take 19 evenThresholds) (set polynomial 19 38) 0 0 ≡ 2
   pub first-3 : drawOf4 7 (set evenThresholds 19 (2 ^ 62)) (set polynomial 19 38) 0 0 ≡ 3
   pub first-4 : drawOf4 7 evenThresholds (set polynomial 19 38) 0 0 ≡ 4
   pub first-5 : drawOf4 7 evenThresholds polynomial 0 0 ≡ 5
   pub first-7 : drawOf4 8 evenThresholds polynomial 31 369 ≡ 7
-  pub first-6 : respondOf4 false (2 ∷ 2 ∷ []) (replicate 8 (pos 8)) (replicate 8 (pos 2816)) 0 ≡ 6
   pub first-8 : respondOf4 false (0 ∷ []) (replicate 8 (pos 8)) (replicate 8 (pos 2816)) 54 ≡ 8
   pub first-9 : respondOf4 false (0 ∷ []) (replicate 8 (pos 8)) (replicate 8 (pos 2816)) 55 ≡ 9
   pub first-10 : respondOf4 true (0 ∷ []) (replicate 8 (pos 8)) (replicate 8 (pos 2816)) 55 ≡ 10
+  pub respond-first-1 : respondRefusal 12 false (2 ∷ 2 ∷ []) (take 20 polynomial) 2 (replicate 8 (pos 8)) (replicate 8 (pos 2816)) 8 0 ≡ 1
+  pub respond-first-2 : respondRefusal 4 false (2 ∷ 2 ∷ []) (take 20 polynomial) 2 (replicate 8 (pos 8)) (replicate 8 (pos 2816)) 8 0 ≡ 2
+  pub respond-first-4 : respondRefusal 4 false (2 ∷ 2 ∷ []) (set polynomial 19 38) 2 (replicate 8 (pos 8)) (replicate 8 (pos 2816)) 8 0 ≡ 4
+  pub respond-first-6 : respondRefusal 4 false (2 ∷ 2 ∷ []) polynomial 2 (replicate 8 (pos 8)) (replicate 8 (pos 2816)) 8 0 ≡ 6
+  pub respond-first-7 : respondRefusal 4 false (0 ∷ []) polynomial 2 (replicate 8 (pos 8)) (replicate 8 (pos 2816)) 8 0 ≡ 7
   -- n = 4: L = 8 and 370 list entries are served, L = 128 with 5,890 too; L = 129 is refusal 5
   pub served-8 : drawOf4 8 evenThresholds polynomial 32 370 ≡ 0
   pub served-128 : drawOf4 128 evenThresholds polynomial 512 5890 ≡ 0
@@ -110,5 +144,9 @@ pub record Examples : Type 0 where
       ∷ entry 4 20 ∷ entry 4 19 ∷ entry 4 18 ∷ entry 4 17 ∷ entry 4 16 ∷ entry 4 15 ∷ entry 4 14 ∷ entry 4 13 ∷ entry 4 12 ∷ entry 4 11
       ∷ entry 4 10 ∷ entry 4 9 ∷ entry 4 8 ∷ entry 4 7 ∷ entry 4 6 ∷ entry 4 5 ∷ entry 4 4 ∷ entry 4 3 ∷ entry 4 2 ∷ entry 4 1 ∷ entry 4 0
       ∷ entry 9 1 ∷ []
+  -- the reads of the key for the challenge 0, 1: output by output, and in each output position by position
+  pub respond-list-of-two : take 17 (respondEntries 4 true (0 ∷ 1 ∷ []))
+      ≡ entry 7 4 ∷ entry 8 0 ∷ entry 8 3 ∷ entry 8 1 ∷ entry 8 0 ∷ entry 8 2 ∷ entry 8 1 ∷ entry 8 3 ∷ entry 8 2
+      ∷ entry 8 4 ∷ entry 8 7 ∷ entry 8 5 ∷ entry 8 4 ∷ entry 8 6 ∷ entry 8 5 ∷ entry 8 7 ∷ entry 8 6 ∷ []
   -- a rejected one ends otherwise
   pub rejected-end : drop 54 (respondEntries 4 false (1 ∷ [])) ≡ entry 9 0 ∷ []
