@@ -1,3 +1,3 @@
 pub mod AttemptLaws
 pub mod Agreement
-pub mod ByItsWords
+pub mod ByRule

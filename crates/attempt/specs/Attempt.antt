@@ -3,7 +3,7 @@ use mathlib.Core.Path.{_≡_}
 use mathlib.Core.Bool.{Bool, true, not, cond, _&&_}
 use mathlib.Core.List.{List, [], _∷_, _++_}
 use mathlib.Core.Logic.{_↔_}
-use Prim.Native.Nat.{ℕ, _+_, _*_, _/_, _%_, _^_, _<_}
+use Prim.Native.Nat.{ℕ, _+_, _-_, _*_, _/_, _%_, _^_, _<_}
 use lib.Dec.{ltb, eqb}
 use lib.ListN.{length, getD, take, drop}
 use lib.IntN.{ℤ, pos, negℤ}
@@ -90,3 +90,15 @@ pub record Tables (cdt polynomialTable : List ℕ) (r : ℕ) : Type 0 where
 -- the entries of attempt t, with so many samples accepted before it
 unfoldable pub attemptEntries : (t before : ℕ) → List ℕ
 attemptEntries t before = placesUp 2 (4 * t) 4 ++ (placesUp 3 0 20 ++ (placesDown 4 21 ++ (entry 5 before ∷ [])))
+
+-- entries are those of attempt t: the places of its four words, of all twenty words of the CDT table, of the polynomial table from entry 20
+-- down, and the samples accepted before it
+pub record AttemptListed (t before : ℕ) (entries : List ℕ) : Type 0 where
+  pub count : length entries ≡ 46
+  pub words : (i : ℕ) → i < 4 → getD entries i 0 ≡ entry 2 (4 * t + i)
+  pub thresholds : (i : ℕ) → i < 20 → getD entries (4 + i) 0 ≡ entry 3 i
+  pub polynomial-entries : (i : ℕ) → i < 21 → getD entries (24 + i) 0 ≡ entry 4 (20 - i)
+  pub last : getD entries 45 0 ≡ entry 5 before
+
+abbrev pub AttemptLists : Type 0
+AttemptLists = (t before : ℕ) → AttemptListed t before (attemptEntries t before)

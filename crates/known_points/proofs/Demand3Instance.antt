@@ -26,9 +26,10 @@ use Rattle.response.specs.Response.{responseOf, measuresOf, respondEntries, res
 use Rattle.refusals.specs.Refusals.{openRefusal, drawRefusal, noiseRefusal, respondRefusal}
 use Rattle.session.specs.Calls.{opened, refusalOfDraw, bitsOfDraw, drawRefused, drawServed, drawLeft, refusalOfRespond, bitOfRespond, zOfRespond, respondRefused, respondServed, respondLeft}
 use Rattle.session.specs.declared.Session.{Session}
-use Rattle.session.specs.Histories.{Call, draw, respond, Left, leftBy, refusalIn, nextIn, yIn, entriesIn, Linked, readList, eventOf, history}
+use Rattle.session.specs.Histories.{Call, draw, respond, Left, leftBy, refusalIn, nextIn, yIn, entriesIn, Linked, readList, Event, drew, answered, eventOf, history, renderEvent}
 use Rattle.session.specs.Demand3.{NoneRefused, AllAlike, lent, Agreeing, seen}
-use Rattle.known_points.specs.Demand3Instance.{wordsOf, oneToEight, drawOver, drawingOver, drawing, rejecting, responding, callsOver, calls, calls′, callsRejecting, refusedRespond, refusedDraw, callsRefused, draws, start, drawnAndAnswered, AnyNumber, Demand3Instance}
+use Rattle.known_points.specs.Demand3Instance.{wordsOf, oneToEight, drawOver, drawing, rejecting, responding, callsOver, calls, calls′, callsRejecting, refusedRespond, refusedDraw, callsRefused, rounds, start, drawnAndAnswered, AnyNumber, Demand3Instance}
+use Rattle.session.proofs.Calls.{served-entries}
 use Rattle.session.proofs.Demand3.{demand3}
 
 -- ** Agreement where the words that differ are not read
@@ -63,65 +64,88 @@ agree-on-first first rest rest′ cdt table key list h e m = record {
   key = λ k. refl;
 }
 
--- ** Any number of draws
+-- ** Any number of calls
 
 -- a session of degree 4
 abbrev atFour : (drawn : Bool) → Session
 atFour drawn = record { degree = 4; drawn = drawn }
 
-abbrev oneDraw : (unread filler : ℕ) → Call
-oneDraw unread filler = draw (drawingOver unread oneToEight filler)
+abbrev theDraw : (unread filler : ℕ) → Call
+theDraw unread filler = draw (drawing unread (pos 0) filler)
 
--- what such a draw does at degree 4, whether y is drawn or not
-record Redrawn (left : Left) : Type 0 where
-  served : refusalIn left ≡ 0
-  next : nextIn left ≡ atFour true
-  y-after : yIn left ≡ oneToEight
+abbrev theRespond : (unread filler : ℕ) → Call
+theRespond unread filler = respond (responding unread (pos 0) filler)
 
-redrawn : (unread filler : ℕ) (drawn : Bool) → Redrawn (leftBy (atFour drawn) (oneDraw unread filler))
-unfolding drawingOver drawOver wordsOf oneToEight evenThresholds thresholdsFrom leftBy drawLeft drawServed refusalOfDraw drawRefusal bitsOfDraw
-    unless isDegree among allBelow isCdt wordsSmall neverFalls isPolynomial sameWords polynomial polynomialFrom factorial drawBits bitsFrom
-    bitAt accepts sampleAt sample baseSample atOrBelow expWith expScaled reciprocal scaled evaluate squared squarings sampledBy
-    accepted drawY samplesFrom drawEntries entriesFrom attemptEntries placesUp placesDown
-redrawn unread filler drawn = record { served = refl; next = refl; y-after = refl }
+-- a call is served, leaves this session and this y, and has this event
+record Served (s : Session) (c : Call) (next : Session) (y : List ℤ) (event : Event) : Type 0 where
+  served : refusalIn (leftBy s c) ≡ 0
+  next-is : nextIn (leftBy s c) ≡ next
+  y-is : yIn (leftBy s c) ≡ y
+  event-is : eventOf s c ≡ event
 
-draws-agree : (drawn : Bool) → Agree (lent (oneDraw 0 0)) (lent (oneDraw 7 9)) (entriesIn (leftBy (atFour drawn) (oneDraw 0 0)))
-unfolding drawingOver drawOver wordsOf oneToEight evenThresholds thresholdsFrom leftBy drawLeft drawServed refusalOfDraw drawRefusal bitsOfDraw
-    unless isDegree among allBelow isCdt wordsSmall neverFalls isPolynomial sameWords polynomial polynomialFrom factorial drawBits bitsFrom
-    bitAt accepts sampleAt sample baseSample atOrBelow expWith expScaled reciprocal scaled evaluate squared squarings sampledBy
-    accepted drawY samplesFrom drawEntries entriesFrom attemptEntries placesUp placesDown filledPart wordsBelow
-draws-agree drawn = agree-on-first (wordsOf 1 8) (replicate 32 0) (replicate 32 7) evenThresholds polynomial [] (entriesIn (leftBy (atFour drawn) (oneDraw 0 0))) refl
+entries-of : {s : Session} {c : Call} {next : Session} {y : List ℤ} {event : Event} → Served s c next y event → entriesIn (leftBy s c) ≡ renderEvent event
+entries-of {s} {c} r = served-entries s c (r .served) ∙ ap renderEvent (r .event-is)
 
+-- a draw and a respond at degree 4 are computed, once for all words that are not read
 module _ (unread filler : ℕ) where
-  linked-draws : (count : ℕ) (drawn : Bool) → Linked (atFour drawn) oneToEight (replicate count (oneDraw unread filler))
-  unfolding Linked drawingOver drawOver
-  linked-draws zero drawn = tt
-  linked-draws (suc count) drawn = let r = redrawn unread filler drawn in ((λ h. refl), rw (r .served, r .next, r .y-after) (linked-draws count true))
+  draw-served : Served (atFour false) (theDraw unread filler) (atFour true) oneToEight (drew 4 (replicate 8 true))
+  unfolding drawing drawOver wordsOf oneToEight evenThresholds thresholdsFrom leftBy drawLeft drawServed refusalOfDraw drawRefusal bitsOfDraw eventOf
+      unless isDegree among allBelow isCdt wordsSmall neverFalls isPolynomial sameWords polynomial polynomialFrom factorial drawBits bitsFrom
+      bitAt accepts sampleAt sample baseSample atOrBelow expWith expScaled reciprocal scaled evaluate squared squarings sampledBy
+      accepted drawY samplesFrom drawEntries entriesFrom attemptEntries placesUp placesDown
+  draw-served = record { served = refl; next-is = refl; y-is = refl; event-is = refl }
 
-  served-draws : (count : ℕ) (drawn : Bool) → NoneRefused (atFour drawn) (replicate count (oneDraw unread filler))
-  unfolding NoneRefused
-  served-draws zero drawn = tt
-  served-draws (suc count) drawn = let r = redrawn unread filler drawn in (r .served, rw (r .next) (served-draws count true))
+  respond-served : Served (atFour true) (theRespond unread filler) (atFour false) (replicate 8 (pos 0)) (answered 4 true (0 ∷ 2 ∷ []))
+  unfolding responding oneToEight leftBy respondLeft respondServed refusalOfRespond respondRefusal noiseRefusal bitOfRespond eventOf
+      unless isDegree among allBelow isPolynomial sameWords polynomial polynomialFrom factorial isChallenge arePositions positionsBelow ascends allWithin
+      respondedBy responseBit responseZ responseOf measuresOf acceptsBy allPass coshPasses squareSum innerProduct product outputsFrom outputAt termAt
+      expWith expScaled reciprocal scaled evaluate squared squarings
+  respond-served = record { served = refl; next-is = refl; y-is = refl; event-is = refl }
 
-alike-draws : (count : ℕ) → AllAlike (replicate count (oneDraw 0 0)) (replicate count (oneDraw 7 9))
-unfolding AllAlike drawingOver drawOver
-alike-draws zero = tt
-alike-draws (suc count) = (refl, alike-draws count)
+  linked-rounds : (count : ℕ) → Linked (atFour false) (replicate 8 (pos 0)) (rounds unread filler count)
+  unfolding Linked rounds callsOver drawing drawOver responding
+  linked-rounds zero = tt
+  linked-rounds (suc count) =
+      let d = draw-served in
+      let r = respond-served in
+      ((λ h. refl), rw (d .served, d .next-is, d .y-is) ((λ h. refl), rw (r .served, r .next-is, r .y-is) (linked-rounds count)))
 
-agreeing-draws : (count : ℕ) (drawn : Bool) → Agreeing (atFour drawn) (replicate count (oneDraw 0 0)) (replicate count (oneDraw 7 9))
-unfolding Agreeing
-agreeing-draws zero drawn = tt
-agreeing-draws (suc count) drawn = (draws-agree drawn, rw (redrawn 0 0 drawn .next) (agreeing-draws count true))
+  served-rounds : (count : ℕ) → NoneRefused (atFour false) (rounds unread filler count)
+  unfolding NoneRefused rounds callsOver
+  served-rounds zero = tt
+  served-rounds (suc count) = let d = draw-served in let r = respond-served in (d .served, rw (d .next-is) (r .served, rw (r .next-is) (served-rounds count)))
+
+alike-rounds : (count : ℕ) → AllAlike (rounds 0 0 count) (rounds 7 9 count)
+unfolding AllAlike rounds callsOver drawing drawOver responding
+alike-rounds zero = tt
+alike-rounds (suc count) = (refl, (refl, alike-rounds count))
+
+draws-agree : Agree (lent (theDraw 0 0)) (lent (theDraw 7 9)) (entriesIn (leftBy (atFour false) (theDraw 0 0)))
+unfolding drawing drawOver wordsOf renderEvent drawEntries entriesFrom attemptEntries placesUp placesDown wordsBelow
+draws-agree =
+    rw (entries-of (draw-served 0 0))
+    (agree-on-first (wordsOf 1 8) (replicate 32 0) (replicate 32 7) evenThresholds polynomial [] (drawEntries 4 (replicate 8 true)) refl)
+
+responds-agree : Agree (lent (theRespond 0 0)) (lent (theRespond 7 9)) (entriesIn (leftBy (atFour true) (theRespond 0 0)))
+unfolding responding renderEvent respondEntries productEntries outputEntriesFrom outputEntries acceptanceEntries placesUp placesDown wordsBelow
+responds-agree =
+    rw (entries-of (respond-served 0 0))
+    (agree-on-first (0 ∷ 0 ∷ 0 ∷ []) (0 ∷ []) (7 ∷ []) [] polynomial (responding 0 (pos 0) 0 .key) (respondEntries 4 true (0 ∷ 2 ∷ [])) refl)
+
+agreeing-rounds : (count : ℕ) → Agreeing (atFour false) (rounds 0 0 count) (rounds 7 9 count)
+unfolding Agreeing rounds callsOver
+agreeing-rounds zero = tt
+agreeing-rounds (suc count) = (draws-agree, rw (draw-served 0 0 .next-is) (responds-agree, rw (respond-served 0 0 .next-is) (agreeing-rounds count)))
 
 any-number : (count : ℕ) → AnyNumber count
-unfolding draws opened openRefusal unless isDegree among
+unfolding opened openRefusal unless isDegree among
 any-number count = record {
-  linked = linked-draws 0 0 count false;
-  linked′ = linked-draws 7 9 count false;
-  none-refused = served-draws 0 0 count false;
-  none-refused′ = served-draws 7 9 count false;
-  alike = alike-draws count;
-  agreeing = agreeing-draws count false;
+  linked = linked-rounds 0 0 count;
+  linked′ = linked-rounds 7 9 count;
+  none-refused = served-rounds 0 0 count;
+  none-refused′ = served-rounds 7 9 count;
+  alike = alike-rounds count;
+  agreeing = agreeing-rounds count;
 }
 
 -- ** The instance
@@ -134,7 +158,7 @@ nonzero h = omega arith
 
 -- what the calls do is computed
 pub demand3-instance : Demand3Instance
-unfolding callsOver callsRejecting callsRefused refusedDraw drawRefused refusedRespond respondRefused rejecting drawing drawingOver responding drawOver wordsOf oneToEight evenThresholds thresholdsFrom opened openRefusal leftBy drawLeft
+unfolding callsOver callsRejecting callsRefused refusedDraw drawRefused refusedRespond respondRefused rejecting drawing responding drawOver wordsOf oneToEight evenThresholds thresholdsFrom opened openRefusal leftBy drawLeft
     drawServed refusalOfDraw drawRefusal bitsOfDraw respondLeft respondServed refusalOfRespond respondRefusal noiseRefusal bitOfRespond Linked
     NoneRefused AllAlike Agreeing history eventOf wordsBelow unless isDegree among allBelow isCdt wordsSmall neverFalls
     isPolynomial sameWords polynomial polynomialFrom factorial isChallenge arePositions positionsBelow ascends allWithin drawBits bitsFrom
@@ -148,10 +172,7 @@ demand3-instance =
     let none-refused : NoneRefused start calls = (refl, (refl, tt)) in
     let none-refused′ : NoneRefused start calls′ = (refl, (refl, tt)) in
     let alike : AllAlike calls calls′ = (refl, (refl, tt)) in
-    let agreeing : Agreeing start calls calls′ = (
-      agree-on-first (wordsOf 1 8) (replicate 32 0) (replicate 32 7) evenThresholds polynomial [] (entriesIn (leftBy start (draw (drawing 0 (pos 0) 0)))) refl,
-      (agree-on-first (0 ∷ 0 ∷ 0 ∷ []) (0 ∷ []) (7 ∷ []) [] polynomial (responding 0 (pos 0) 0 .key) (entriesIn (leftBy (nextIn (leftBy start (draw (drawing 0 (pos 0) 0)))) (respond (responding 0 (pos 0) 0)))) refl, tt),
-    ) in
+    let agreeing : Agreeing start calls calls′ = (draws-agree, (responds-agree, tt)) in
     let linked-refused : Linked start (replicate 8 (pos 0)) callsRefused = ((λ h. refl), ((λ h. absurd (nonzero h)), ((λ h. absurd (nonzero h)), ((λ h. refl), tt)))) in
     let linked-rejecting : Linked start (replicate 8 (pos 0)) callsRejecting = ((λ h. refl), ((λ h. refl), tt)) in
     let same = demand3 4 4 (replicate 8 (pos 0)) (replicate 8 (pos 1)) calls calls′ linked linked′ .1 refl none-refused none-refused′ alike agreeing in

@@ -33,13 +33,9 @@ oneToEight = pos 1 ∷ pos 2 ∷ pos 3 ∷ pos 4 ∷ pos 5 ∷ pos 6 ∷ pos 7 �
 unfoldable pub drawOver : (words : List ℕ) (y : List ℤ) (list : List ℕ) → Draw
 drawOver words y list = record { limit = 16; cdt = evenThresholds; polynomial = polynomial; words = words; y = y; list = list }
 
--- eight attempts, all accepted, and 32 words behind them that are not read; y before it is y
-unfoldable pub drawingOver : (unread : ℕ) (y : List ℤ) (filler : ℕ) → Draw
-drawingOver unread y filler = drawOver (wordsOf 1 8 ++ replicate 32 unread) y (replicate 738 filler)
-
--- the same over one value throughout
+-- eight attempts, all accepted, and 32 words behind them that are not read
 unfoldable pub drawing : (unread : ℕ) (before : ℤ) (filler : ℕ) → Draw
-drawing unread before filler = drawingOver unread (replicate 8 before) filler
+drawing unread before filler = drawOver (wordsOf 1 8 ++ replicate 32 unread) (replicate 8 before) (replicate 738 filler)
 
 -- nine attempts: the first, of size 0 and sign 1, is not accepted
 unfoldable pub rejecting : Draw
@@ -83,9 +79,10 @@ refusedDraw = drawOver [] (pos 3 ∷ []) []
 unfoldable pub callsRefused : List Call
 callsRefused = draw (drawing 0 (pos 0) 0) ∷ draw refusedDraw ∷ respond refusedRespond ∷ respond (responding 0 (pos 0) 0) ∷ []
 
--- so many draws, each but the first over the y that the one before has drawn
-unfoldable pub draws : (unread filler count : ℕ) → List Call
-draws unread filler count = replicate count (draw (drawingOver unread oneToEight filler))
+-- so many times a draw and a respond, over the zeros that a respond leaves
+unfoldable pub rounds : (unread filler count : ℕ) → List Call
+rounds unread filler zero = []
+rounds unread filler (suc count) = callsOver unread (pos 0) filler ++ rounds unread filler count
 
 -- the session of degree 4, just opened
 abbrev pub start : Session
@@ -113,14 +110,14 @@ answeredBy z = answer (record { answer = record { refusal = 0; bit = true; entri
 
 -- ** What demand 3 says of them
 
--- all that the second half asks for, of so many draws
+-- all that the second half asks for, of so many rounds
 pub record AnyNumber (count : ℕ) : Type 0 where
-  pub linked : Linked start oneToEight (draws 0 0 count)
-  pub linked′ : Linked start oneToEight (draws 7 9 count)
-  pub none-refused : NoneRefused start (draws 0 0 count)
-  pub none-refused′ : NoneRefused start (draws 7 9 count)
-  pub alike : AllAlike (draws 0 0 count) (draws 7 9 count)
-  pub agreeing : Agreeing start (draws 0 0 count) (draws 7 9 count)
+  pub linked : Linked start (replicate 8 (pos 0)) (rounds 0 0 count)
+  pub linked′ : Linked start (replicate 8 (pos 0)) (rounds 7 9 count)
+  pub none-refused : NoneRefused start (rounds 0 0 count)
+  pub none-refused′ : NoneRefused start (rounds 7 9 count)
+  pub alike : AllAlike (rounds 0 0 count) (rounds 7 9 count)
+  pub agreeing : Agreeing start (rounds 0 0 count) (rounds 7 9 count)
 
 pub record Demand3Instance : Type 0 where
   -- all that the second half asks for

@@ -1,12 +1,12 @@
 -- Entries taken apart, and entries written one after the other. Assumes nothing.
-use mathlib.Core.Path.{_≡_, refl, ap, _∙_}
+use mathlib.Core.Path.{_≡_, refl, sym, ap, _∙_}
 use mathlib.Core.List.{List, [], _∷_, _++_, append-nil}
 use Prim.Native.Nat.{ℕ, zero, suc, _+_, _-_, _^_, _≤_, _<_}
-use native.Mathlib.Nat.{not-suc-le-zero, add-zero, zero-add, add-suc, suc-add}
+use native.Mathlib.Nat.{not-suc-le-zero, le-of-suc-le-suc, add-zero, zero-add, add-suc, suc-add}
 use native.Mathlib.Omega.{arith}
 use borrow.Author.Tests.{le-leb, lt-leb}
 use lib.Arith.{digits-div, digits-mod}
-use lib.ListN.{length, take, drop, set}
+use lib.ListN.{length, getD, take, drop, set}
 use lib.Seq.{sets, sets-eq, length-sets, take-append-seam, drop-append-seam, drop-length}
 use Rattle.read_list.specs.Entries.{entry, kindOf, placeOf, placesUp, placesDown, filledPart, FilledUpTo}
 
@@ -51,7 +51,19 @@ pub placesUp-more : (kind place count : ℕ) (list : List ℕ) (at : ℕ) {list�
 placesUp-more kind place count list at {i = i} {p = p} e₁ e₂ ei ep =
     rw (← placesUp-snoc kind place count, ← ep) (written-behind list at i (placesUp kind place count) (entry kind p ∷ []) e₁ e₂ (omega (arith, ei, length-placesUp kind place count)))
 
+pub places-up-at : (kind place count i : ℕ) → i < count → getD (placesUp kind place count) i 0 ≡ entry kind (place + i)
+unfolding placesUp
+places-up-at kind place zero i h = absurd (not-suc-le-zero h)
+places-up-at kind place (suc count) zero h = ap (entry kind) (sym (add-zero place))
+places-up-at kind place (suc count) (suc i) h = places-up-at kind (suc place) count i (le-of-suc-le-suc h) ∙ ap (entry kind) (omega arith)
+
 -- ** Runs of entries, the highest place first
+
+pub places-down-at : (kind count i : ℕ) → i < count → getD (placesDown kind count) i 0 ≡ entry kind (count - suc i)
+unfolding placesDown
+places-down-at kind zero i h = absurd (not-suc-le-zero h)
+places-down-at kind (suc count) zero h = ap (entry kind) (omega arith)
+places-down-at kind (suc count) (suc i) h = places-down-at kind count i (le-of-suc-le-suc h) ∙ ap (entry kind) (omega arith)
 
 pub placesDown-step : (kind : ℕ) (l : List ℕ) (i j : ℕ) → 0 < j → sets (set l i (entry kind (j - 1))) (suc i) (placesDown kind (j - 1)) ≡ sets l i (placesDown kind j)
 unfolding placesDown

@@ -1,15 +1,15 @@
 -- Laws of ranges of vectors, and of sums over them. Assumes nothing.
-use mathlib.Core.Path.{_≡_, refl}
+use mathlib.Core.Path.{_≡_, refl, sym, ap, _∙_}
 use mathlib.Core.Bool.{true, and-eq-true-iff}
 use mathlib.Core.List.{List, [], _∷_, _++_}
 use Prim.Native.Nat.{ℕ, zero, suc, _+_, _*_, _≤_}
-use native.Mathlib.Nat.{mul-le-mul}
+use native.Mathlib.Nat.{mul-le-mul, suc-inj}
 use native.Mathlib.Omega.{arith}
 use lib.Dec.{leb}
-use lib.IntN.{ℤ, pos, natAbs, _*ℤ_}
+use lib.IntN.{ℤ, pos, natAbs, _+ℤ_, _*ℤ_, +ℤ-idl, +ℤ-idr, +ℤ-assoc}
 use lib.ListN.{length, getD}
 use borrow.Author.Tests.{leb-true, le-leb}
-use Rattle.signed.specs.Vectors.{allWithin, squareSum, innerProduct}
+use Rattle.signed.specs.Vectors.{allWithin, squareSum, innerProduct, SquaresByOneMore, ProductsByOneMore}
 use Rattle.signed.proofs.Signs.{abs-add, abs-mul}
 
 -- ** Ranges
@@ -53,7 +53,19 @@ unfolding squareSum
 squares-append [] bs = omega arith
 squares-append (a ∷ as′) bs = omega (arith, squares-append as′ bs)
 
+pub squares-by-one-more : SquaresByOneMore
+unfolding squareSum
+squares-by-one-more values v = omega (arith, squares-append values (v ∷ []))
+
 -- ** The sum of products
+
+pub products-by-one-more : ProductsByOneMore
+unfolding innerProduct
+products-by-one-more [] [] v w l = +ℤ-idr (v *ℤ w) ∙ sym (+ℤ-idl (v *ℤ w))
+products-by-one-more [] (y ∷ b) v w l = absurd (omega arith)
+products-by-one-more (x ∷ a) [] v w l = absurd (omega arith)
+products-by-one-more (x ∷ a) (y ∷ b) v w l =
+    ap (λ (sum : ℤ). (x *ℤ y) +ℤ sum) (products-by-one-more a b v w (suc-inj l)) ∙ sym (+ℤ-assoc (x *ℤ y) (innerProduct a b) (v *ℤ w))
 
 pub inner-within : (p q : ℕ) (a b : List ℤ) → allWithin p a ≡ true → allWithin q b ≡ true → natAbs (innerProduct a b) ≤ p * q * length b
 unfolding innerProduct

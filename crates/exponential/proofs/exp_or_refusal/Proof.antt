@@ -5,7 +5,7 @@ use Prim.Native.Nat.{ℕ, _≤_}
 use native.Mathlib.Omega.{arith}
 use Rattle.exponential.specs.Exponential.{factorial, entriesFrom, polynomial, expScaled, exp, limit, expOrRefusal}
 use Rattle.exponential.proofs.Table.{by-215}
-use Rattle.exponential.proofs.Alone.{exponential-alone}
+use Rattle.exponential.proofs.ByRule.{exponential-alone}
 use Rattle.exponential.proofs.Steps.{exp-in-steps}
 use Rattle.exponential.proofs.exp_or_refusal.Statement.{statement}
 use Rattle.exponential.proofs.exp_or_refusal.Tie as tie

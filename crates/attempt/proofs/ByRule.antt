@@ -1,18 +1,20 @@
--- Attempt t is attempt 0 over its own four words, and attempt 0 is by the rule. Assumes nothing.
+-- Attempt t is attempt 0 over its own four words, attempt 0 is by the rule, and its entries stand in order. Assumes nothing.
 use mathlib.Core.Path.{_≡_, refl, sym, ap, _∙_}
 use mathlib.Core.Bool.{Bool, true, false, not, cond, _&&_, false≢true, and-eq-true-iff}
-use mathlib.Core.List.{List}
+use mathlib.Core.List.{List, [], _∷_, _++_}
 use mathlib.Core.Logic.{_↔_}
 use Prim.Native.Nat.{ℕ, _+_, _*_, _/_, _%_, _^_, _<_}
-use native.Mathlib.Nat.{add-zero}
+use native.Mathlib.Nat.{add-zero, zero-add}
 use native.Mathlib.Omega.{arith}
 use lib.Dec.{ltb, eqb}
 use lib.IntN.{ℤ, pos, negℤ}
-use lib.ListN.{getD, take, drop}
-use lib.Seq.{getD-take, getD-drop}
+use lib.ListN.{getD, take, drop, List·getD-append}
+use lib.Seq.{getD-take, getD-drop, getD-append-add}
 use borrow.Author.Tests.{ltb-true, lt-ltb, eqb-true, eqb-false, eq-eqb, ne-eqb, not-true}
 use Rattle.arithmetic.specs.Words.{low62Of}
-use Rattle.attempt.specs.Attempt.{size, exponent, accepts, sample, bitAt, sampleAt, ByItsWords, AttemptByItsWords, ByRule, AttemptByRule}
+use Rattle.read_list.specs.Entries.{entry, placesUp, placesDown}
+use Rattle.read_list.proofs.Laws.{places-up-at, places-down-at}
+use Rattle.attempt.specs.Attempt.{size, exponent, accepts, sample, bitAt, sampleAt, AttemptByItsWords, AttemptByRule, attemptEntries, AttemptLists}
 
 -- ** The words
 
@@ -59,3 +61,22 @@ attempt-by-rule e cdt first second third fourth = record {
   plus = λ h. rw (ne-eqb (third / 256 % 2) 1 (λ g. omega arith));
   minus = λ h. rw (eq-eqb (third / 256 % 2) 1 h);
 }
+
+-- ** The entries
+
+pub attempt-lists : AttemptLists
+unfolding attemptEntries placesUp placesDown
+attempt-lists t before =
+    let words = placesUp 2 (4 * t) 4 in
+    let thresholds = placesUp 3 0 20 in
+    let entries = placesDown 4 21 in
+    let behind = entries ++ (entry 5 before ∷ []) in
+    record {
+      count = refl;
+      words = λ i h. List·getD-append words (thresholds ++ behind) 0 i h ∙ places-up-at 2 (4 * t) 4 i h;
+      thresholds = λ i h. getD-append-add words (thresholds ++ behind) i 0 ∙ List·getD-append thresholds behind 0 i h ∙ places-up-at 3 0 20 i h ∙ ap (entry 3) (zero-add i);
+      polynomial-entries = λ i h. let place : 24 + i ≡ 4 + (20 + i) = omega arith in
+          ap (λ (m : ℕ). getD (words ++ (thresholds ++ behind)) m 0) place ∙ getD-append-add words (thresholds ++ behind) (20 + i) 0 ∙ getD-append-add thresholds behind i 0
+          ∙ List·getD-append entries (entry 5 before ∷ []) 0 i h ∙ places-down-at 4 21 i h ∙ ap (entry 4) (omega arith);
+      last = refl;
+    }
