@@ -4,7 +4,7 @@
 
 #include "bliss_box.h"
 
-enum { MOST_DEGREE = 512, MOST_ATTEMPTS = 2048, MOST_POSITIONS = 23 };
+enum { MOST_DEGREE = 1024, MOST_ATTEMPTS = 2304, MOST_POSITIONS = 64 };
 
 static const uint64_t polynomial[BLISS_POLYNOMIAL_WORDS] = BLISS_POLYNOMIAL;
 static const uint64_t cdt[BLISS_CDT_WORDS] = BLISS_CDT_215;
@@ -20,8 +20,8 @@ static struct {
 static uint32_t challenge[MOST_POSITIONS];
 static int32_t z[BLISS_SAMPLES(MOST_DEGREE)];
 
-/* Long enough for a draw, and so for a response. */
-static uint32_t list[BLISS_DRAW_ENTRIES(MOST_ATTEMPTS)];
-_Static_assert(BLISS_RESPOND_ENTRIES(MOST_DEGREE, MOST_POSITIONS) <= BLISS_DRAW_ENTRIES(MOST_ATTEMPTS), "a list for both calls");
+/* Long enough for a response, and so for a draw. */
+static uint32_t list[BLISS_RESPOND_ENTRIES(MOST_DEGREE, MOST_POSITIONS)];
+_Static_assert(BLISS_DRAW_ENTRIES(MOST_ATTEMPTS) <= BLISS_RESPOND_ENTRIES(MOST_DEGREE, MOST_POSITIONS), "a list for both calls");
 
 #endif

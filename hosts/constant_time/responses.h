@@ -32,15 +32,24 @@ static inline void fill_around(int32_t *values, size_t length, int32_t centre, i
         values[i] = centre - distance + (int32_t)secret_below(2 * (uint64_t)distance + 1);
 }
 
+/* Makes three of four values zero, or about as many. */
+static inline void thin(int32_t *values, size_t length)
+{
+    for (size_t i = 0; i < length; i++)
+        values[i] *= (int32_t)(secret_bit() & secret_bit());
+}
+
 /* At degrees 4 and 8 all values in range are used: A and Z stay within their limits, e(N2) is above 0, and the words decide. From
  * 16 on values are small, but for those of a rejected response, where a secret bit may make them large: the key takes A over its
- * limit, the noise Z, and both 2|I|. */
+ * limit, the noise Z, and both 2|I|. A long challenge at a large degree has a thin key, or A would always be over its limit. */
 static inline void fill_values(struct response r)
 {
     int32_t large_key = (int32_t)((1 - r.bit) & secret_bit());
     int32_t large_noise = (int32_t)((1 - r.bit) & secret_bit());
 
     fill_around(lent.key, 2 * r.n, r.n < 16 ? 0 : 6 * large_key, r.n < 16 ? 7 : 1);
+    if (2 * r.n * r.positions > 65536)
+        thin(lent.key, 2 * r.n);
     fill_around(lent.y, 2 * r.n, r.n < 16 ? 0 : 2600 * large_noise, r.n < 16 ? 2815 : 215);
     /* As the product of a key of positive values has them. */
     for (size_t i = 0; i < 2 * r.n; i++)

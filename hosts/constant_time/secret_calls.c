@@ -12,8 +12,8 @@
 #include <string.h>
 #include <valgrind/memcheck.h>
 
-/* How often a call of a small degree is made, and one of degree 512. */
-enum { OFTEN = 16, SELDOM = 2 };
+/* How often a call of a small degree is made; one of a large degree is made once. */
+enum { OFTEN = 16 };
 
 static size_t calls;
 static size_t attempts;
@@ -78,6 +78,7 @@ static void draw_full(void)
         call_draw((struct draw){4, 8, 8, 16, i});
     }
     call_draw((struct draw){512, 2048, 1024, 11, 0});
+    call_draw((struct draw){1024, 2304, 2048, 15, 0});
 }
 
 /* Spent with fewer samples, or with one too few. */
@@ -88,6 +89,7 @@ static void draw_spent(void)
         call_draw((struct draw){4, 40, 7, 11, i});
     }
     call_draw((struct draw){512, 1024, 1023, 11, 0});
+    call_draw((struct draw){1024, 2048, 2047, 11, 0});
 }
 
 static void call_respond(struct response r)
@@ -108,18 +110,26 @@ static void respond(uint64_t bit, uint32_t refusal)
         call_respond((struct response){8, 3, bit, refusal, i});
         call_respond((struct response){16, 16, bit, refusal, i});
     }
-    for (uint64_t i = 0; i < SELDOM; i++)
-        call_respond((struct response){512, 23, bit, refusal, i});
+    call_respond((struct response){512, 23, bit, refusal, 0});
+    call_respond((struct response){1024, 1, bit, refusal, 0});
+}
+
+/* The most values and positions: it takes as long as all others. */
+static void respond_largest(uint64_t bit)
+{
+    call_respond((struct response){1024, 64, bit, BLISS_SERVED, 0});
 }
 
 static void accepted(void)
 {
     respond(1, BLISS_SERVED);
+    respond_largest(1);
 }
 
 static void rejected(void)
 {
     respond(0, BLISS_SERVED);
+    respond_largest(0);
 }
 
 static void refused_9(void)
