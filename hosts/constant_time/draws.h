@@ -89,4 +89,11 @@ static inline bliss_drawn made_draw(struct draw draw)
                       BLISS_DRAW_ENTRIES(draw.limit));
 }
 
+/* Whether a draw came out as it was chosen. */
+static inline bool draw_is_chosen(struct draw draw, size_t accepted, bliss_drawn drawn)
+{
+    return drawn.answer.refusal == BLISS_SERVED && drawn.answer.accepted == accepted &&
+           drawn.session.drawn == (draw.most == BLISS_SAMPLES(draw.n));
+}
+
 #endif

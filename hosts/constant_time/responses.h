@@ -192,4 +192,10 @@ static inline bliss_responded made_response(struct response r)
                          2 * r.n, list, BLISS_RESPOND_ENTRIES(r.n, r.positions));
 }
 
+/* Whether a response came out as it was chosen. */
+static inline bool response_is_chosen(struct response r, bliss_responded responded)
+{
+    return responded.answer.refusal == r.refusal && responded.answer.bit == r.bit;
+}
+
 #endif

@@ -66,8 +66,7 @@ static void call_draw(struct draw draw)
     drawn = made_draw(draw);
     reveal(&drawn, sizeof drawn);
     attempts += drawn.answer.attempts;
-    as_chosen &= drawn.answer.refusal == BLISS_SERVED && drawn.answer.accepted == accepted &&
-                 drawn.session.drawn == (draw.most == BLISS_SAMPLES(draw.n));
+    as_chosen &= draw_is_chosen(draw, accepted, drawn);
 }
 
 /* Full before the limit, or with its last attempt. */
@@ -100,7 +99,7 @@ static void call_respond(struct response r)
     begin_call();
     responded = made_response(r);
     reveal(&responded, sizeof responded);
-    as_chosen &= responded.answer.refusal == r.refusal && responded.answer.bit == r.bit;
+    as_chosen &= response_is_chosen(r, responded);
 }
 
 static void respond(uint64_t bit, uint32_t refusal)

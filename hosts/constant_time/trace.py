@@ -2,24 +2,16 @@
 
 usage: trace.py same|different BINARY ARGUMENT.. -- SEED SEED..
 
-The whole trace of a run, from the program's first instruction to its last, is compared: valgrind's lackey lists each
-instruction, load and store by its address. `same` succeeds where all traces are equal, and `different` where the first
-differs from every other: that shows that the comparison finds a leak. The runs go side by side, and their traces are
-compared line by line as they come.
+The whole trace of a run, from the program's first instruction to its last, is compared. `same` succeeds where all traces are
+equal, and `different` where the first differs from every other: that shows that the comparison finds a leak. The runs go side
+by side, and their traces are compared line by line as they come.
 """
 import itertools
-import os
-import subprocess
 import sys
 
-
-def started(command):
-    """A traced run, and its trace."""
-    end, log = os.pipe()
-    run = subprocess.Popen(["setarch", "--addr-no-randomize", "valgrind", "--tool=lackey", "--trace-mem=yes", f"--log-fd={log}",
-                            *command], pass_fds=[log], stdin=subprocess.DEVNULL, stdout=subprocess.DEVNULL)
-    os.close(log)
-    return run, open(end, "rb")
+# Importing it leaves nothing in its folder.
+sys.dont_write_bytecode = True
+from lackey import started
 
 
 def lines(trace):
