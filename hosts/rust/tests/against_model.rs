@@ -1,7 +1,7 @@
 //! Compares the raw surface of the archive with the model. Every draw and every respond call is compared in its answer, its
 //! session, y, z, the whole list, and in what it must leave alone: what is lent for reading, and the memory around every buffer.
-//! The last line says how many calls were compared. A run of the default length, or a longer one, fails where it misses a case or
-//! compares fewer than 100,000 calls.
+//! The last line says how many calls were compared. A run of the default length, or a longer one, fails where it misses a case, or
+//! compares less than the documents say.
 //!
 //! BLISS_CALLS is the number of single draws to compare, and of single respond calls; the other parts of a run grow with it.
 //! BLISS_SEED is the seed of the first one of each, and each one after it has the next. A failure names the seed: with it and
@@ -29,8 +29,11 @@ use comparison::Comparison;
 use random::Random;
 use run::DEFAULT_SEED;
 
-/// The draws and respond calls that a whole run compares, or more.
-const LEAST_CALLS: u64 = 100_000;
+/// The draws and respond calls that a whole run compares with the model, or more, as README.md says.
+const LEAST_CALLS: u64 = 250_000;
+
+/// The pairs of lists of calls that it compares with each other, or more, as docs/ARCHITECTURE.md says.
+const LEAST_PAIRS: u64 = 32_000;
 
 type Part = (&'static str, fn(&Comparison));
 
@@ -64,8 +67,8 @@ fn main() -> ExitCode {
         return ExitCode::FAILURE;
     }
     println!("compared: {comparison}");
-    if run::is_whole() && words.is_empty() && comparison.calls() < LEAST_CALLS {
-        eprintln!("fewer than {LEAST_CALLS} draws and respond calls were compared");
+    if run::is_whole() && words.is_empty() && (comparison.calls() < LEAST_CALLS || comparison.pairs() < LEAST_PAIRS) {
+        eprintln!("fewer than {LEAST_CALLS} draws and respond calls, or than {LEAST_PAIRS} pairs of lists, were compared");
         return ExitCode::FAILURE;
     }
     ExitCode::SUCCESS

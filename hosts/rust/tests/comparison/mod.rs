@@ -104,6 +104,11 @@ impl Comparison {
     pub fn calls(&self) -> u64 {
         self.draws.load(Relaxed) + self.responds.load(Relaxed)
     }
+
+    /// The pairs of lists of calls that were compared with each other.
+    pub fn pairs(&self) -> u64 {
+        self.pairs.load(Relaxed)
+    }
 }
 
 impl Display for Comparison {
