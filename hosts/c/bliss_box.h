@@ -3,9 +3,11 @@
  * A call takes any numbers and any contents, keeps no state of its own, uses no heap and always returns. A call that can't be
  * served gives the number of the first refusal that applies, and leaves all memory and the session as they were.
  *
- * What the box can't see, the host must guarantee: each pointer is aligned and valid for its length, for writing too where it
- * is not const; a buffer that is written overlaps no other; `drawn` is 0 or 1. With a length of 0 the pointer is not used, but
- * must not be null. */
+ * The host must guarantee what the types say, and no compiler sees: each pointer is aligned and valid for its length, for writing
+ * too where it is not const; none is null, also with a length of 0; a buffer that is written overlaps no other; `drawn` is 0 or 1.
+ * docs/HOST-GUIDE.md says more.
+ *
+ * What stands under Time is tested on the archive, and not proved. */
 #ifndef BLISS_BOX_H
 #define BLISS_BOX_H
 
@@ -108,8 +110,8 @@ bliss_opened bliss_open(size_t n);
 /* Draws 2n samples of Gaussian noise into y.
  * Needs:   y and list writable, and apart from each other and from the rest.
  * Gives:   full, as soon as 2n samples are accepted: y has them in the order of acceptance, and the next session is drawn; or
- *          spent, after `limit` attempts with fewer: y is all zero, and the next session is not drawn. Each read of cdt,
- *          polynomial and words is listed from the start of the list; bliss_filled gives the filled part.
+ *          spent, after `limit` attempts with fewer: y is all zero, and the next session is not drawn. After the checks, each
+ *          read of cdt, polynomial and words is listed from the start of the list; bliss_filled gives the filled part.
  * Refuses: 1, 2, 3, 4, 5, 7, 8, in this order.
  * Leaves:  the list behind the entries, the tables and the words; refused, everything.
  * Time:    no jump and no address hangs on a word or a sample, except by the accept bits of the attempts, which the list shows.
@@ -126,8 +128,8 @@ bliss_drawn bliss_draw(bliss_session session, size_t limit,                  //
  *          the challenge its positions in ascending order.
  * Gives:   bit true: z is y plus or minus the product of key and challenge modulo X^n + 1; or bit false, a rejection: z is all
  *          zero. Either way y is all zero and the next session is not drawn, so that the noise is used once: a rejection wants a
- *          new draw. Each read of the key, the words and the polynomial is listed from the start of the list, and last the bit;
- *          bliss_filled gives the filled part.
+ *          new draw. After the checks, each read of the key, the words and the polynomial is listed from the start of the list,
+ *          and last the bit; bliss_filled gives the filled part.
  * Refuses: 1, 2, 4, 6, 7, 8, 9, 10, 11, in this order.
  * Leaves:  the list behind the entries, the challenge, the polynomial, the words and the key; refused, everything.
  * Time:    no jump and no address hangs on words, key, y or z, except by the response's bit, which the list shows, and by refusals

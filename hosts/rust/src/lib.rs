@@ -1,6 +1,6 @@
 //! The BLISS-I sampling box for a Rust host. It draws the noise vector y of a signature from random words that the host
-//! supplies, turns y, a key and a challenge into a response or a rejection, and lists every place that it reads. Document 01 is
-//! the definition of the box.
+//! supplies, turns y, a key and a challenge into a response or a rejection, and lists what it reads of words, tables and key
+//! after its checks. Document 01 is the definition of the box; docs/SPECIFICATION.md has its rules, and what is listed.
 //!
 //! ```
 //! use bliss_box::{draw_limit, word_count, Secret, Session, CDT, POLYNOMIAL, RESPOND_WORDS};

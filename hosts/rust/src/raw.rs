@@ -88,8 +88,8 @@ extern "C" {
     /// Takes any number.
     pub fn bliss_open(n: usize) -> Opened;
 
-    /// Takes any session and any limit. Each pointer must be aligned and valid for its length in values, `y` and `list` for
-    /// writing too, and neither of these two may overlap any other buffer.
+    /// Takes any session and any limit. Each pointer must be aligned, not null and valid for its length in values, `y` and `list`
+    /// for writing too, and neither of these two may overlap any other buffer.
     pub fn bliss_draw(
         session: Session,
         limit: usize,
@@ -105,8 +105,8 @@ extern "C" {
         list_length: usize,
     ) -> Drawn;
 
-    /// Takes any session. Each pointer must be aligned and valid for its length in values, `y`, `z` and `list` for writing too,
-    /// and none of these three may overlap any other buffer.
+    /// Takes any session. Each pointer must be aligned, not null and valid for its length in values, `y`, `z` and `list` for
+    /// writing too, and none of these three may overlap any other buffer.
     pub fn bliss_respond(
         session: Session,
         challenge: *const u32,
@@ -125,8 +125,8 @@ extern "C" {
         list_length: usize,
     ) -> Responded;
 
-    /// The length of the filled part, which starts where the list starts. `list` must be aligned and valid for its length in
-    /// entries.
+    /// The length of the filled part, which starts where the list starts. `list` must be aligned, not null and valid for its length
+    /// in entries.
     pub fn bliss_filled(list: *const u32, list_length: usize, count: usize) -> usize;
 
     /// Takes any number.

@@ -34,8 +34,9 @@ range by range: a bar of # for the samples drawn, and a | at the exact count tha
 ";
 
 const LISTED: &str = "\
-The box listed every place that it read. Whoever reads the list learns the degree, which attempts
-were accepted, the challenge and the bit of the response, but no word, no noise and no key value:
+The box listed each place of words, tables and key that it read after its checks. Whoever reads the
+list learns the degree, which attempts were accepted, the challenge and the bit of the response, but
+no word, no noise and no key value:
 ";
 
 /// What an entry of each kind tells, in the order of the kinds.
