@@ -17,7 +17,8 @@ pub extern "C" fn bliss_open(n: usize) -> Opened
     Session::open(n)
 }
 
-// Draws 2n samples into y within a limit of attempts. The reads are listed from the start of the list on.
+// Draws 2n samples into y within a limit of attempts. After the checks, the reads of words and tables are listed from the start of the
+// list on.
 #[no_mangle]
 pub extern "C" fn bliss_draw(
     session: Session,
@@ -33,8 +34,8 @@ pub extern "C" fn bliss_draw(
     session.draw(limit, cdt, polynomial, words, y, list)
 }
 
-// Responds to a challenge: z holds the response where the bit is 1, else it is all zero, and y becomes all zero. The reads are listed from
-// the start of the list on.
+// Responds to a challenge: z holds the response where the bit is 1, else it is all zero, and y becomes all zero. After the checks,
+// the reads of key, words and table are listed from the start of the list on.
 #[no_mangle]
 pub extern "C" fn bliss_respond(
     session: Session,

@@ -1,4 +1,4 @@
-// The read list: one entry for each read of lent memory, written where the read is made.
+// The read list: after the checks of a call, one entry for each read of lent words, tables and keys, written where the read is made.
 ghost use mathlib.Core.Path.{_≡_};
 ghost use Prim.Native.Nat.{_<_, _^_};
 ghost use lib.ListN.{length, getD, set};

@@ -72,7 +72,8 @@ impl Session {
         }
     }
 
-    // Draws 2n samples into y within a limit of attempts. The reads are listed from the start of the list on.
+    // Draws 2n samples into y within a limit of attempts. After the checks, the reads of words and tables are listed from the start of the
+    // list on.
     pub fn draw(
         self,
         limit: usize,
@@ -111,7 +112,7 @@ impl Session {
     }
 
     // Responds to a challenge: z holds y and the product of the key with the challenge, added or subtracted, where the bit is 1, else it
-    // is all zero. y becomes all zero. The reads are listed from the start of the list on.
+    // is all zero. y becomes all zero. After the checks, the reads of key, words and table are listed from the start of the list on.
     pub fn respond(
         self,
         challenge: &[u32],
