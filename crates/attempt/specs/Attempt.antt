@@ -65,10 +65,11 @@ pub record ByItsWords (e : ℕ → ℕ) (cdt words : List ℕ) (t : ℕ) : Type 
 abbrev pub AttemptByItsWords : Type 0
 AttemptByItsWords = (e : ℕ → ℕ) (cdt words : List ℕ) (t : ℕ) → ByItsWords e cdt words t
 
--- attempt 0 over four words, of which the first two give x: its accept bit is 1 exactly when 62 of the last is below e(N), and not (size 0 and
--- sign 1); its sample is the size, negative where the sign is 1
+-- attempt 0 over four words, of which the first two give x: its accept bit is 1 exactly when 62 of the last is below e(N), and not (size 0
+-- and sign 1); its sample is the size, negative where the sign is 1
 pub record ByRule (e : ℕ → ℕ) (x third fourth : ℕ) (accepted : Bool) (value : ℤ) : Type 0 where
-  pub bit : (accepted ≡ true) ↔ ((fourth % 2 ^ 62 < e (third % 256 * (third % 256 + 512 * x))) × ((256 * x + third % 256 ≡ 0) × (third / 256 % 2 ≡ 1) → ⊥))
+  pub bit : (accepted ≡ true)
+      ↔ ((fourth % 2 ^ 62 < e (third % 256 * (third % 256 + 512 * x))) × ((256 * x + third % 256 ≡ 0) × (third / 256 % 2 ≡ 1) → ⊥))
   pub plus : third / 256 % 2 ≡ 0 → value ≡ pos (256 * x + third % 256)
   pub minus : third / 256 % 2 ≡ 1 → value ≡ negℤ (pos (256 * x + third % 256))
 

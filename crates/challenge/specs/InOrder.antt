@@ -18,8 +18,10 @@ ProductHalves = (key : List ℤ) (n : ℕ) (challenge : List ℕ) → Halves key
 
 -- entries are those of a product: for each half, then each output, then each position in order, the index of s used
 pub record HalvesListed (n : ℕ) (challenge entries : List ℕ) : Type 0 where
-  pub first : (i k : ℕ) → i < n → k < length challenge → getD entries (i * length challenge + k) 0 ≡ entry 8 (indexOf n i (getD challenge k 0))
-  pub second : (i k : ℕ) → i < n → k < length challenge → getD entries ((n + i) * length challenge + k) 0 ≡ entry 8 (n + indexOf n i (getD challenge k 0))
+  pub first : (i k : ℕ) → i < n → k < length challenge
+      → getD entries (i * length challenge + k) 0 ≡ entry 8 (indexOf n i (getD challenge k 0))
+  pub second : (i k : ℕ) → i < n → k < length challenge
+      → getD entries ((n + i) * length challenge + k) 0 ≡ entry 8 (n + indexOf n i (getD challenge k 0))
 
 abbrev pub ProductListed : Type 0
 ProductListed = (n : ℕ) (challenge : List ℕ) → HalvesListed n challenge (productEntries n challenge)

@@ -1,5 +1,5 @@
--- Demand 3 at degree 4: two lists of calls that are lent different words at places that are not read, one with refused calls among them, one
--- with another history, and lists of any number of calls. Assumes nothing.
+-- Demand 3 at degree 4: two lists of calls that are lent different words at places that are not read, one with refused calls among them,
+-- one with another history, and lists of any number of calls. Assumes nothing.
 use mathlib.Core.Path.{_≡_}
 use mathlib.Core.Bool.{Bool, true, false}
 use mathlib.Core.List.{List, [], _∷_, _++_}
@@ -94,15 +94,21 @@ drawnAndAnswered bits = drew 4 bits ∷ answered 4 true (0 ∷ 2 ∷ []) ∷ []
 
 -- what the caller sees of the draw: full after eight attempts, and y
 abbrev pub drawnOneToEight : Seen
-drawnOneToEight = sampled (record { answer = record { refusal = 0; attempts = 8; accepted = 8; entries = 370 }; session = record { degree = 4; drawn = true } }) oneToEight
+drawnOneToEight = sampled
+    (record { answer = record { refusal = 0; attempts = 8; accepted = 8; entries = 370 }; session = record { degree = 4; drawn = true } })
+    oneToEight
 
 -- of a draw over a drawn y that is refused by 2: y is drawn still
 abbrev pub drawRefusedBy2 : Seen
-drawRefusedBy2 = sampled (record { answer = record { refusal = 2; attempts = 0; accepted = 0; entries = 0 }; session = record { degree = 4; drawn = true } }) (pos 3 ∷ [])
+drawRefusedBy2 = sampled
+    (record { answer = record { refusal = 2; attempts = 0; accepted = 0; entries = 0 }; session = record { degree = 4; drawn = true } })
+    (pos 3 ∷ [])
 
 -- of a respond that is
 abbrev pub respondRefusedBy2 : Seen
-respondRefusedBy2 = answer (record { answer = record { refusal = 2; bit = false; entries = 0 }; session = record { degree = 4; drawn = true } }) (pos 3 ∷ []) []
+respondRefusedBy2 = answer
+    (record { answer = record { refusal = 2; bit = false; entries = 0 }; session = record { degree = 4; drawn = true } })
+    (pos 3 ∷ []) []
 
 -- and of the respond: its bit is 1, y is all zero, and z
 abbrev pub answeredBy : (z : List ℤ) → Seen

@@ -57,7 +57,8 @@ DrawRefuses n limit cdt polynomial words y list =
     Serves))))))
 
 -- words, z and list are lengths
-abbrev pub RespondRefuses : (n : ℕ) (drawn : Bool) (challenge polynomial : List ℕ) (words : ℕ) (key y : List ℤ) (z list : ℕ) (refusal : ℕ) → Type 0
+abbrev pub RespondRefuses : (n : ℕ) (drawn : Bool) (challenge polynomial : List ℕ) (words : ℕ) (key y : List ℤ) (z list : ℕ)
+    (refusal : ℕ) → Type 0
 RespondRefuses n drawn challenge polynomial words key y z list =
     Refuses 1 (NoDegree n)
     (Refuses 2 ((length polynomial ≢ 21) ⊎ (length y ≢ 2 * n) ⊎ (z ≢ 2 * n) ⊎ (length key ≢ 2 * n))

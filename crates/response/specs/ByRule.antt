@@ -38,7 +38,9 @@ pub record AllTestsPass (e : ℕ → ℕ) (sc z : List ℤ) (second third : ℕ)
 
 -- the bit is 1 exactly then
 abbrev pub BitByTests : Type 0
-BitByTests = (e : ℕ → ℕ) (y sc : List ℤ) (words : List ℕ) → (responseBit e y sc words ≡ true) ↔ AllTestsPass e sc (responseZ y sc words) (getD words 1 0) (getD words 2 0)
+BitByTests =
+    (e : ℕ → ℕ) (y sc : List ℤ) (words : List ℕ)
+    → (responseBit e y sc words ≡ true) ↔ AllTestsPass e sc (responseZ y sc words) (getD words 1 0) (getD words 2 0)
 
 -- ** The read list
 
@@ -47,7 +49,8 @@ pub record ResponseListed (n : ℕ) (challenge : List ℕ) (accepted : Bool) (en
   pub count : length entries ≡ 2 * n * length challenge + 47
   pub first : getD entries 0 0 ≡ entry 7 n
   pub key : HalvesListed n challenge (drop 1 entries)
-  pub others : drop (2 * n * length challenge + 1) entries ≡ entry 2 0 ∷ entry 2 1 ∷ entry 2 2 ∷ (placesDown 4 21 ++ (placesDown 4 21 ++ (entry 9 (bit accepted) ∷ [])))
+  pub others : drop (2 * n * length challenge + 1) entries
+      ≡ entry 2 0 ∷ entry 2 1 ∷ entry 2 2 ∷ (placesDown 4 21 ++ (placesDown 4 21 ++ (entry 9 (bit accepted) ∷ [])))
 
 abbrev pub RespondLists : Type 0
 RespondLists = (n : ℕ) (accepted : Bool) (challenge : List ℕ) → ResponseListed n challenge accepted (respondEntries n accepted challenge)

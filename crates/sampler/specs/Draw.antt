@@ -102,7 +102,9 @@ pub record InOrder (sampleOf : ℕ → ℤ) (bits : List Bool) (y : List ℤ) : 
 
 -- so y holds them after a draw that is full
 abbrev pub SamplesInOrder : Type 0
-SamplesInOrder = (cdt words : List ℕ) (want : ℕ) (bits : List Bool) → accepted bits ≡ want → InOrder (sampleAt cdt words) bits (drawY cdt words want bits)
+SamplesInOrder =
+    (cdt words : List ℕ) (want : ℕ) (bits : List Bool) → accepted bits ≡ want
+    → InOrder (sampleAt cdt words) bits (drawY cdt words want bits)
 
 -- entries are those of a draw with these bits: the degree, each attempt with the samples accepted before it, and the accepted count
 pub record Listed (n : ℕ) (bits : List Bool) (entries : List ℕ) : Type 0 where

@@ -29,7 +29,8 @@ DrawRefusesFirst =
 abbrev pub RespondRefusesFirst : Type 0
 RespondRefusesFirst =
     (s : Session) (r : Respond) →
-    RespondRefuses (s .degree) (s .drawn) (r .challenge) (r .polynomial) (length (r .words)) (r .key) (r .y) (length (r .z)) (length (r .list))
+    RespondRefuses (s .degree) (s .drawn) (r .challenge) (r .polynomial) (length (r .words)) (r .key) (r .y) (length (r .z))
+    (length (r .list))
     (respondLeft s r .responded .answer .refusal)
 
 -- ** A draw that is served
@@ -46,17 +47,20 @@ pub record DrawMade (s : Session) (d : Draw) (left : DrawLeft) (bits : List Bool
 
 -- the bits are those that its history holds
 abbrev pub ServedDrawByRule : Type 0
-ServedDrawByRule = (s : Session) (d : Draw) → let left = drawLeft s d in left .drawn .answer .refusal ≡ 0 → DrawMade s d left (bitsOfDraw s d)
+ServedDrawByRule =
+    (s : Session) (d : Draw) → let left = drawLeft s d in
+    left .drawn .answer .refusal ≡ 0 → DrawMade s d left (bitsOfDraw s d)
 
 -- ** A respond that is served
 
--- for the z that is y plus or minus Sc, the bit is 1 exactly when all tests pass, by e(N); then it is the z that is handed back. Its list has
--- its entries, the bit last
+-- for the z that is y plus or minus Sc, the bit is 1 exactly when all tests pass, by e(N); then it is the z that is handed back. Its list
+-- has its entries, the bit last
 pub record RespondMade (s : Session) (r : Respond) (left : RespondLeft) (sc : List ℤ) : Type 0 where
   pub bit : (z : List ℤ) → PlusOrMinus (getD (r .words) 0 0) (r .y) sc z
       → (left .responded .answer .bit ≡ true) ↔ AllTestsPass exp sc z (getD (r .words) 1 0) (getD (r .words) 2 0)
   pub z : left .responded .answer .bit ≡ true → PlusOrMinus (getD (r .words) 0 0) (r .y) sc (left .z)
-  pub listed : ResponseListed (s .degree) (r .challenge) (left .responded .answer .bit) (take (left .responded .answer .entries) (left .list))
+  pub listed : ResponseListed (s .degree) (r .challenge) (left .responded .answer .bit)
+      (take (left .responded .answer .entries) (left .list))
 
 abbrev pub ServedRespondByRule : Type 0
 ServedRespondByRule =

@@ -1,5 +1,5 @@
--- What lists of calls add up to, said of what the caller sees: however many they are, calls can be linked, and each adds its entries and its
--- event to those of the calls behind it. Assumes nothing.
+-- What lists of calls add up to, said of what the caller sees: however many they are, calls can be linked, and each adds its entries and
+-- its event to those of the calls behind it. Assumes nothing.
 use mathlib.Core.Path.{_≡_}
 use mathlib.Core.Bool.{cond}
 use mathlib.Core.List.{List, [], _∷_, _++_}
@@ -9,7 +9,7 @@ use lib.Dec.{eqb}
 use lib.IntN.{ℤ}
 use lib.ListN.{take}
 use Rattle.session.specs.declared.Session.{Session}
-use Rattle.session.specs.Calls.{Draw, bitsOfDraw, drawLeft, Respond, respondLeft}
+use Rattle.session.specs.Calls.{Draw, DrawLeft, bitsOfDraw, drawLeft, Respond, RespondLeft, respondLeft}
 use Rattle.session.specs.Histories.{Call, draw, respond, leftBy, refusalIn, nextIn, yIn, Linked, readList, drew, answered, history}
 use Rattle.session.specs.Demand3.{sampled, answer, seen}
 
@@ -18,12 +18,22 @@ use Rattle.session.specs.Demand3.{sampled, answer, seen}
 -- a call that is lent another y
 abbrev pub lending : (y : List ℤ) → Call → Call
 lending y (draw d) = draw (record { limit = d .limit; cdt = d .cdt; polynomial = d .polynomial; words = d .words; y = y; list = d .list })
-lending y (respond r) = respond (record { challenge = r .challenge; polynomial = r .polynomial; words = r .words; key = r .key; y = y; z = r .z; list = r .list })
+lending y (respond r) = respond (record {
+  challenge = r .challenge;
+  polynomial = r .polynomial;
+  words = r .words;
+  key = r .key;
+  y = y;
+  z = r .z;
+  list = r .list;
+})
 
 -- calls that are each lent y as the calls before left it
 unfoldable pub threaded : (s : Session) (y : List ℤ) (calls : List Call) → List Call
 threaded s y [] = []
-threaded s y (c ∷ calls) = let left = leftBy s (lending y c) in lending y c ∷ threaded (nextIn left) (cond (eqb (refusalIn left) 0) (yIn left) y) calls
+threaded s y (c ∷ calls) =
+    let left = leftBy s (lending y c) in
+    lending y c ∷ threaded (nextIn left) (cond (eqb (refusalIn left) 0) (yIn left) y) calls
 
 -- such calls are linked, whatever and however many they are: demand 3 speaks of them
 abbrev pub AnyCallsLink : Type 0
@@ -33,22 +43,25 @@ AnyCallsLink = (s : Session) (y : List ℤ) (calls : List Call) → Linked s y (
 
 -- a draw: the entries that its answer counts stand first, and so does its event where it is not refused; the others follow from the next
 -- session
-pub record DrawAdds (s : Session) (d : Draw) (calls : List Call) : Type 0 where
-  pub reads : let left = drawLeft s d in readList s (draw d ∷ calls) ≡ take (left .drawn .answer .entries) (left .list) ++ readList (left .drawn .session) calls
-  pub served : let left = drawLeft s d in left .drawn .answer .refusal ≡ 0 → history s (draw d ∷ calls) ≡ drew (s .degree) (bitsOfDraw s d) ∷ history (left .drawn .session) calls
-  pub refused : let left = drawLeft s d in left .drawn .answer .refusal ≢ 0 → history s (draw d ∷ calls) ≡ history (left .drawn .session) calls
-  pub seen-first : let left = drawLeft s d in seen s (draw d ∷ calls) ≡ sampled (left .drawn) (left .y) ∷ seen (left .drawn .session) calls
+pub record DrawAdds (s : Session) (d : Draw) (left : DrawLeft) (calls : List Call) : Type 0 where
+  pub reads : readList s (draw d ∷ calls) ≡ take (left .drawn .answer .entries) (left .list) ++ readList (left .drawn .session) calls
+  pub served : left .drawn .answer .refusal ≡ 0
+      → history s (draw d ∷ calls) ≡ drew (s .degree) (bitsOfDraw s d) ∷ history (left .drawn .session) calls
+  pub refused : left .drawn .answer .refusal ≢ 0 → history s (draw d ∷ calls) ≡ history (left .drawn .session) calls
+  pub seen-first : seen s (draw d ∷ calls) ≡ sampled (left .drawn) (left .y) ∷ seen (left .drawn .session) calls
 
 abbrev pub EveryDrawAdds : Type 0
-EveryDrawAdds = (s : Session) (d : Draw) (calls : List Call) → DrawAdds s d calls
+EveryDrawAdds = (s : Session) (d : Draw) (calls : List Call) → DrawAdds s d (drawLeft s d) calls
 
 -- a respond: likewise; the bit of its event is that of its answer
-pub record RespondAdds (s : Session) (r : Respond) (calls : List Call) : Type 0 where
-  pub reads : let left = respondLeft s r in readList s (respond r ∷ calls) ≡ take (left .responded .answer .entries) (left .list) ++ readList (left .responded .session) calls
-  pub served : let left = respondLeft s r in left .responded .answer .refusal ≡ 0
-      → history s (respond r ∷ calls) ≡ answered (s .degree) (left .responded .answer .bit) (r .challenge) ∷ history (left .responded .session) calls
-  pub refused : let left = respondLeft s r in left .responded .answer .refusal ≢ 0 → history s (respond r ∷ calls) ≡ history (left .responded .session) calls
-  pub seen-first : let left = respondLeft s r in seen s (respond r ∷ calls) ≡ answer (left .responded) (left .y) (left .z) ∷ seen (left .responded .session) calls
+pub record RespondAdds (s : Session) (r : Respond) (left : RespondLeft) (calls : List Call) : Type 0 where
+  pub reads : readList s (respond r ∷ calls)
+      ≡ take (left .responded .answer .entries) (left .list) ++ readList (left .responded .session) calls
+  pub served : left .responded .answer .refusal ≡ 0
+      → history s (respond r ∷ calls)
+      ≡ answered (s .degree) (left .responded .answer .bit) (r .challenge) ∷ history (left .responded .session) calls
+  pub refused : left .responded .answer .refusal ≢ 0 → history s (respond r ∷ calls) ≡ history (left .responded .session) calls
+  pub seen-first : seen s (respond r ∷ calls) ≡ answer (left .responded) (left .y) (left .z) ∷ seen (left .responded .session) calls
 
 abbrev pub EveryRespondAdds : Type 0
-EveryRespondAdds = (s : Session) (r : Respond) (calls : List Call) → RespondAdds s r calls
+EveryRespondAdds = (s : Session) (r : Respond) (calls : List Call) → RespondAdds s r (respondLeft s r) calls
