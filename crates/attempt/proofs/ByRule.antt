@@ -1,17 +1,15 @@
 -- Attempt t is attempt 0 over its own four words, attempt 0 is by the rule, and its entries stand in order. Assumes nothing.
 use mathlib.Core.Path.{_≡_, refl, sym, ap, _∙_}
-use mathlib.Core.Bool.{Bool, true, false, not, cond, _&&_, false≢true, and-eq-true-iff}
+use mathlib.Core.Bool.{Bool, true, false, not, _&&_, false≢true, and-eq-true-iff}
 use mathlib.Core.List.{List, [], _∷_, _++_}
 use mathlib.Core.Logic.{_↔_}
 use Prim.Native.Nat.{ℕ, _+_, _*_, _/_, _%_, _^_, _<_}
 use native.Mathlib.Nat.{add-zero, zero-add}
 use native.Mathlib.Omega.{arith}
 use lib.Dec.{ltb, eqb}
-use lib.IntN.{ℤ, pos, negℤ}
 use lib.ListN.{getD, take, drop, List·getD-append}
 use lib.Seq.{getD-take, getD-drop, getD-append-add}
-use borrow.Author.Tests.{ltb-true, lt-ltb, eqb-true, eqb-false, eq-eqb, ne-eqb, not-true}
-use Rattle.arithmetic.specs.Words.{low62Of}
+use borrow.Author.Tests.{ltb-true, lt-ltb, eqb-true, eq-eqb, ne-eqb}
 use Rattle.read_list.specs.Entries.{entry, placesUp, placesDown}
 use Rattle.read_list.proofs.Laws.{places-up-at, places-down-at}
 use Rattle.attempt.specs.Attempt.{size, exponent, accepts, sample, bitAt, sampleAt, AttemptByItsWords, AttemptByRule, attemptEntries, AttemptLists}

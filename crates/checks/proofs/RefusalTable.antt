@@ -1,6 +1,6 @@
 -- Tests that fail exactly where a line of a table of refusals applies. Assumes nothing.
 use mathlib.Core.Path.{_≡_, refl, sym, ap, _∙_}
-use mathlib.Core.Bool.{Bool, true, false, not, _&&_, _||_, false≢true}
+use mathlib.Core.Bool.{Bool, true, false, _&&_, _||_, false≢true}
 use mathlib.Core.List.{List, [], _∷_}
 use mathlib.Core.Logic.{_⊎_, _≢_, inl, inr, ⊎-elim}
 use Prim.Native.Nat.{ℕ, zero, suc, _^_, _≤_, _<_}
@@ -8,7 +8,7 @@ use native.Mathlib.Omega.{arith}
 use lib.Dec.{leb, ltb, eqb}
 use lib.Pow.{pow-mono}
 use borrow.Author.Tests.{eqb-true, eqb-false, leb-true, leb-false, ltb-true, ltb-false, le-ltb}
-use Rattle.checks.specs.Checks.{among, degrees, isDegree, allBelow, unless}
+use Rattle.checks.specs.Checks.{among, isDegree, allBelow, unless}
 use Rattle.checks.specs.RefusalTable.{Refuses, refused, passed, Somewhere, PowerOfTwo}
 use Rattle.checks.proofs.Laws.{all-at, degree-range}
 

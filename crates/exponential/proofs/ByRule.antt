@@ -1,39 +1,63 @@
 -- e(N) by the numbers of document 01, and by N alone. Assumes nothing.
-use mathlib.Core.Path.{_≡_, refl, sym, ap, _∙_}
+use mathlib.Core.Path.{_≡_, refl, ap, _∙_}
+use mathlib.Core.Bool.{cond}
 use Prim.Native.Nat.{ℕ, zero, suc, _+_, _-_, _*_, _/_, _^_, _≤_, _<_}
 use native.Mathlib.Omega.{arith}
+use lib.Dec.{ltb}
 use lib.ListN.{getD}
-use borrow.Author.Tests.{le-leb, lt-leb}
-use Rattle.exponential.specs.Exponential.{factorial, polynomialEntry, polynomial, reciprocal, scaled, evaluate, squared, squarings, expScaled, expWith, InTurn, ExponentialInTurn, limit, expOrRefusal, ExponentialAlone}
+use borrow.Author.Tests.{le-leb, lt-leb, lt-ltb, le-ltb}
+use Rattle.exponential.specs.Exponential.{polynomialEntry, polynomial, reciprocal, scaled, evaluate, squared, squarings, expScaled, expWith, ExponentialInTurn, limit, expOrRefusal, ExponentialAlone}
 use Rattle.exponential.proofs.Table.{table-at}
 
 -- ** In turn
 
-module _ (q n : ℕ) (a : ℕ → ℕ) (turn : InTurn q n a) where
+module _ (q n : ℕ) where
+  -- v
+  abbrev vOf : ℕ
+  vOf = n * (2 ^ 84 / q) / 2 ^ 22
+
+  -- the numbers a
+  unfoldable numbers : ℕ → ℕ
+  numbers zero = polynomialEntry 20
+  numbers (suc i) = cond (ltb i 20) (polynomialEntry (19 - i) - numbers i * vOf / 2 ^ 62) (numbers i * numbers i / 2 ^ 62)
+
+  evaluated-next : (i : ℕ) → i < 20 → numbers (suc i) ≡ polynomialEntry (19 - i) - numbers i * vOf / 2 ^ 62
+  unfolding numbers
+  evaluated-next i h = rw (lt-ltb i 20 h)
+
+  squared-next : (i : ℕ) → 20 ≤ i → numbers (suc i) ≡ numbers i * numbers i / 2 ^ 62
+  unfolding numbers
+  squared-next i h = rw (le-ltb i 20 h)
+
   -- with the entries below j still to come
-  evaluated-on : (j i : ℕ) → j + i ≡ 20 → evaluate polynomial (scaled (reciprocal q) n) j (a i) ≡ a 20
+  evaluated-on : (j i : ℕ) → j + i ≡ 20 → evaluate polynomial (scaled (reciprocal q) n) j (numbers i) ≡ numbers 20
   unfolding evaluate scaled reciprocal
-  evaluated-on zero i h = ap a (omega arith)
+  evaluated-on zero i h = ap numbers (omega arith)
   evaluated-on (suc j) i h =
-      let v = n * (2 ^ 84 / q) / 2 ^ 22 in
-      let same : 19 - i ≡ j = omega arith in
-      let next : getD polynomial j 0 - a i * v / 2 ^ 62 ≡ a (suc i) =
-      ap (λ (e : ℕ). e - a i * v / 2 ^ 62) (table-at j (omega arith) ∙ ap polynomialEntry (sym same)) ∙ sym (turn .evaluated i (omega arith)) in
-      ap (evaluate polynomial v j) next ∙ evaluated-on j (suc i) (omega arith)
+      let same : j ≡ 19 - i = omega arith in
+      let entry : getD polynomial j 0 ≡ polynomialEntry (19 - i) = table-at j (omega arith) ∙ ap polynomialEntry same in
+      rw (entry, ← evaluated-next i (omega arith)) (evaluated-on j (suc i) (omega arith))
 
-  squared-on : (count i : ℕ) → 20 ≤ i → count + i ≡ 26 → squarings count (a i) ≡ a 26
+  squared-on : (count i : ℕ) → 20 ≤ i → count + i ≡ 26 → squarings count (numbers i) ≡ numbers 26
   unfolding squarings squared
-  squared-on zero i low h = ap a (omega arith)
-  squared-on (suc count) i low h = ap (squarings count) (sym (turn .squared-next i low (omega arith))) ∙ squared-on count (suc i) (omega arith) (omega arith)
+  squared-on zero i low h = ap numbers (omega arith)
+  squared-on (suc count) i low h = rw (← squared-next i low) (squared-on count (suc i) (omega arith) (omega arith))
 
-  in-turn : expWith polynomial q n ≡ a 26
-  unfolding expWith expScaled
-  in-turn =
-      let start : getD polynomial 20 0 ≡ a 0 = table-at 20 (omega arith) ∙ sym (turn .start) in
-      ap (λ (e : ℕ). squarings 6 (evaluate polynomial (scaled (reciprocal q) n) 20 e)) start ∙ ap (squarings 6) (evaluated-on 20 0 refl) ∙ squared-on 6 20 (omega arith) refl
+  last-is : expWith polynomial q n ≡ numbers 26
+  unfolding expWith expScaled numbers
+  last-is =
+      ap (λ (e : ℕ). squarings 6 (evaluate polynomial (scaled (reciprocal q) n) 20 e)) (table-at 20 (omega arith))
+      ∙ ap (squarings 6) (evaluated-on 20 0 refl) ∙ squared-on 6 20 (omega arith) refl
 
 pub exponential-in-turn : ExponentialInTurn
-exponential-in-turn q n a turn = in-turn q n a turn
+unfolding numbers
+exponential-in-turn q n = record {
+  a = numbers q n;
+  start = refl;
+  evaluated = evaluated-next q n;
+  squared-next = λ i low high. squared-next q n i low;
+  last = last-is q n;
+}
 
 -- ** By N alone
 

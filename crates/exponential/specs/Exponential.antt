@@ -96,15 +96,17 @@ expOrRefusal n = cond (leb n limit) (exp n) (2 ^ 63 + 12)
 -- ** What follows
 
 -- the numbers a of document 01, one after the other, for the divisor q: entry 20, then one for each entry from 19 down to 0, then one for
--- each of six squarings
-pub record InTurn (q n : ℕ) (a : ℕ → ℕ) : Type 0 where
+-- each of six squarings; the last is e
+pub record InTurn (q n e : ℕ) : Type 0 where
+  pub a : ℕ → ℕ
   pub start : a 0 ≡ 2 ^ 62 / factorial 20
   pub evaluated : (i : ℕ) → i < 20 → a (suc i) ≡ 2 ^ 62 / factorial (19 - i) - a i * (n * (2 ^ 84 / q) / 2 ^ 22) / 2 ^ 62
   pub squared-next : (i : ℕ) → 20 ≤ i → i < 26 → a (suc i) ≡ a i * a i / 2 ^ 62
+  pub last : e ≡ a 26
 
--- the last of them is e(N)
+-- so is e(N)
 abbrev pub ExponentialInTurn : Type 0
-ExponentialInTurn = (q n : ℕ) (a : ℕ → ℕ) → InTurn q n a → expWith polynomial q n ≡ a 26
+ExponentialInTurn = (q n : ℕ) → InTurn q n (expWith polynomial q n)
 
 -- up to 5,534,960 it is e(N), and above it refusal 12
 pub record Alone (n result : ℕ) : Type 0 where

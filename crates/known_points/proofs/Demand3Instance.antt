@@ -26,7 +26,7 @@ use Rattle.response.specs.Response.{responseOf, measuresOf, respondEntries, res
 use Rattle.refusals.specs.Refusals.{openRefusal, drawRefusal, noiseRefusal, respondRefusal}
 use Rattle.session.specs.Calls.{opened, refusalOfDraw, bitsOfDraw, drawRefused, drawServed, drawLeft, refusalOfRespond, bitOfRespond, zOfRespond, respondRefused, respondServed, respondLeft}
 use Rattle.session.specs.declared.Session.{Session}
-use Rattle.session.specs.Histories.{Call, draw, respond, Left, leftBy, refusalIn, nextIn, yIn, entriesIn, Linked, readList, Event, drew, answered, eventOf, history, renderEvent}
+use Rattle.session.specs.Histories.{Call, draw, respond, leftBy, refusalIn, nextIn, yIn, entriesIn, Linked, readList, Event, drew, answered, eventOf, history, renderEvent}
 use Rattle.session.specs.Demand3.{NoneRefused, AllAlike, lent, Agreeing, seen}
 use Rattle.known_points.specs.Demand3Instance.{wordsOf, oneToEight, drawOver, drawing, rejecting, responding, callsOver, calls, calls′, callsRejecting, refusedRespond, refusedDraw, callsRefused, rounds, start, drawnAndAnswered, AnyNumber, Demand3Instance}
 use Rattle.session.proofs.Calls.{served-entries}

@@ -3,23 +3,22 @@ use mathlib.Core.Path.{_≡_, refl, sym, ap, _∙_}
 use mathlib.Core.Bool.{Bool, true, false, _&&_, false≢true}
 use mathlib.Core.List.{List, [], _∷_}
 use mathlib.Core.Logic.{_⊎_, _≢_}
-use Prim.Native.Nat.{ℕ, zero, suc, _+_, _-_, _*_, _/_, _^_, _≤_, _<_}
+use Prim.Native.Nat.{ℕ, suc, _+_, _-_, _*_, _^_, _<_}
 use native.Mathlib.Omega.{arith}
 use lib.Dec.{leb, ltb, eqb}
-use lib.IntN.{ℤ, pos, natAbs}
+use lib.IntN.{ℤ, natAbs}
 use lib.ListN.{length, getD}
 use lib.Seq.{ext-getD}
 use borrow.Author.Tests.{eqb-true, leb-false}
 use Rattle.signed.specs.Vectors.{allWithin}
 use Rattle.signed.proofs.Vectors.{within-at}
-use Rattle.checks.specs.Checks.{isDegree, allBelow}
-use Rattle.checks.specs.RefusalTable.{Somewhere}
+use Rattle.checks.specs.Checks.{allBelow}
 use Rattle.checks.proofs.Laws.{both-true, all-at}
 use Rattle.checks.proofs.RefusalTable.{FailsWhere, refuses, fails-unequal, fails-above, fails-from, fails-either, fails-somewhere, fails-no-degree}
-use Rattle.exponential.specs.Exponential.{factorial, polynomialEntry, entriesFrom, polynomial, isPolynomial}
+use Rattle.exponential.specs.Exponential.{polynomialEntry, entriesFrom, polynomial, isPolynomial}
 use Rattle.exponential.proofs.Table.{table-at, polynomial-of, is-polynomial}
 use Rattle.base_sample.specs.BaseSample.{threshold, wordsSmall, neverFalls, isCdt}
-use Rattle.challenge.specs.Challenge.{lengthFits, positionsBelow, ascends, arePositions, isChallenge}
+use Rattle.challenge.specs.Challenge.{positionsBelow, ascends, arePositions, isChallenge}
 use Rattle.refusals.specs.Refusals.{openRefusal, drawRefusal, noiseRefusal, respondRefusal}
 use Rattle.refusals.specs.FirstRefusal.{NoCdt, NoPolynomial, TooMany, NoPositions, Outside, OpeningRefuses, DrawRefuses, RespondRefuses}
 

@@ -1,23 +1,21 @@
 -- Each call by the words of document 01. Assumes nothing.
-use mathlib.Core.Path.{_≡_, refl, sym, ap, _∙_, subst}
+use mathlib.Core.Path.{_≡_, refl, sym, _∙_, subst}
 use mathlib.Core.Bool.{Bool, true, false, cond}
 use mathlib.Core.List.{List}
 use mathlib.Core.Logic.{_↔_}
-use Prim.Native.Nat.{ℕ, _*_, _%_, _<_}
-use native.Mathlib.Omega.{arith}
-use lib.IntN.{ℤ, pos}
-use lib.ListN.{length, getD, take}
-use lib.Seq.{sets}
+use Prim.Native.Nat.{ℕ, _*_}
+use lib.IntN.{ℤ}
+use lib.ListN.{length, getD}
 use Rattle.read_list.proofs.Laws.{take-written}
 use Rattle.exponential.specs.Exponential.{polynomial, expWith, divisor, exp}
-use Rattle.attempt.specs.Attempt.{bitAt, sampleAt}
-use Rattle.sampler.specs.Draw.{drawBits, drawEntries, sampledBy, Stops, Listed}
+use Rattle.attempt.specs.Attempt.{bitAt}
+use Rattle.sampler.specs.Draw.{drawBits, drawEntries, sampledBy, Stops}
 use Rattle.sampler.proofs.DrawStops.{draw-stops}
 use Rattle.sampler.proofs.DrawOrder.{samples-in-order, draw-lists}
 use Rattle.sampler.proofs.DrawTells.{length-drawEntries}
 use Rattle.challenge.specs.Product.{product}
 use Rattle.challenge.proofs.InOrder.{product-halves}
-use Rattle.response.specs.Response.{responseZ, responseBit, respondEntries, respondedBy}
+use Rattle.response.specs.Response.{respondEntries, respondedBy}
 use Rattle.response.specs.ByRule.{PlusOrMinus, AllTestsPass}
 use Rattle.response.proofs.ByRule.{response-plus-or-minus, plus-or-minus-one, bit-by-tests, respond-lists}
 use Rattle.refusals.proofs.FirstRefusal.{opening-refuses, draw-refuses, respond-refuses}
