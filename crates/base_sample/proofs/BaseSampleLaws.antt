@@ -11,20 +11,23 @@ use lib.Dec.{leb}
 use borrow.Author.Tests.{leb-true, leb-false, le-leb}
 use Rattle.arithmetic.specs.Words.{bit}
 use Rattle.checks.proofs.Laws.{all-at}
-use Rattle.base_sample.specs.BaseSample.{threshold, neverFalls, atOrBelow, baseSample, AtJust, BaseSampleExactly, BaseSampleRises}
+use Rattle.base_sample.specs.BaseSample.{threshold, neverFalls, atOrBelow, baseSample, AtJust, BaseSampleExactly, BaseSampleRises, ThresholdByItsWords, Rising}
 
 -- ** Thresholds that never fall
 
-rises : (cdt : List ℕ) → neverFalls cdt ≡ true → (i : ℕ) → i < 9 → threshold cdt i ≤ threshold cdt (suc i)
-unfolding neverFalls
-rises cdt e i h = leb-true (threshold cdt i) (threshold cdt (suc i)) (all-at (λ (j : ℕ). leb (threshold cdt j) (threshold cdt (suc j))) i 9 h e)
+pub threshold-by-its-words : ThresholdByItsWords
+threshold-by-its-words cdt i = refl
 
-in-order : (cdt : List ℕ) → neverFalls cdt ≡ true → (i j : ℕ) → i ≤ j → j < 10 → threshold cdt i ≤ threshold cdt j
+pub rising : (cdt : List ℕ) → neverFalls cdt ≡ true → Rising cdt
+unfolding neverFalls
+rising cdt e i h = leb-true (threshold cdt i) (threshold cdt (suc i)) (all-at (λ (j : ℕ). leb (threshold cdt j) (threshold cdt (suc j))) i 9 h e)
+
+in-order : (cdt : List ℕ) → Rising cdt → (i j : ℕ) → i ≤ j → j < 10 → threshold cdt i ≤ threshold cdt j
 in-order cdt e i zero h g = rw (le-zero h) (le-refl (threshold cdt 0))
 in-order cdt e i (suc j) h g =
     ⊎-elim
     (λ same. rw same (le-refl (threshold cdt (suc j))))
-    (λ below. le-trans (in-order cdt e i j (le-of-suc-le-suc below) (omega arith)) (rises cdt e j (le-of-suc-le-suc g)))
+    (λ below. le-trans (in-order cdt e i j (le-of-suc-le-suc below) (omega arith)) (e j (le-of-suc-le-suc g)))
     (eq-or-lt-of-le h)
 
 -- ** The count, threshold by threshold
@@ -33,7 +36,7 @@ module _ (cdt : List ℕ) (d : ℕ) where
   none : AtJust cdt d 0 0
   none = record { at-most = omega arith; at-or-above = λ i h. absurd (not-suc-le-zero h); below = λ i h g. absurd (not-suc-le-zero g) }
 
-  one-more : neverFalls cdt ≡ true → (count x : ℕ) → count < 10 → AtJust cdt d count x → AtJust cdt d (suc count) (x + bit (leb (threshold cdt count) d))
+  one-more : Rising cdt → (count x : ℕ) → count < 10 → AtJust cdt d count x → AtJust cdt d (suc count) (x + bit (leb (threshold cdt count) d))
   one-more e count x h r = by (leb (threshold cdt count) d) refl
     where
       -- where d is at or above this threshold, it is below none before
@@ -60,7 +63,7 @@ module _ (cdt : List ℕ) (d : ℕ) where
             below = λ i g k. last here i (omega (arith, g)) k;
           }
 
-  counted : neverFalls cdt ≡ true → (count : ℕ) → count ≤ 10 → AtJust cdt d count (atOrBelow cdt d count)
+  counted : Rising cdt → (count : ℕ) → count ≤ 10 → AtJust cdt d count (atOrBelow cdt d count)
   unfolding atOrBelow
   counted e zero h = none
   counted e (suc count) h = one-more e count (atOrBelow cdt d count) h (counted e count (omega arith))

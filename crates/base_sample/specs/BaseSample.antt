@@ -46,9 +46,17 @@ pub record AtJust (cdt : List ℕ) (d count x : ℕ) : Type 0 where
   pub at-or-above : (i : ℕ) → i < x → threshold cdt i ≤ d
   pub below : (i : ℕ) → x ≤ i → i < count → d < threshold cdt i
 
--- where the thresholds never fall, the base sample is x exactly when d is at or above just x thresholds
+-- threshold i is its high word and then its low word
+abbrev pub ThresholdByItsWords : Type 0
+ThresholdByItsWords = (cdt : List ℕ) (i : ℕ) → threshold cdt i ≡ getD cdt (2 * i) 0 * 2 ^ 62 + getD cdt (2 * i + 1) 0
+
+-- thresholds that never fall
+abbrev pub Rising : (cdt : List ℕ) → Type 0
+Rising cdt = (i : ℕ) → i < 9 → threshold cdt i ≤ threshold cdt (suc i)
+
+-- where they do not, the base sample is x exactly when d is at or above just x thresholds
 abbrev pub BaseSampleExactly : Type 0
-BaseSampleExactly = (cdt : List ℕ) (d x : ℕ) → neverFalls cdt ≡ true → (baseSample cdt d ≡ x) ↔ AtJust cdt d 10 x
+BaseSampleExactly = (cdt : List ℕ) (d x : ℕ) → Rising cdt → (baseSample cdt d ≡ x) ↔ AtJust cdt d 10 x
 
 -- the base sample never falls as d rises
 abbrev pub BaseSampleRises : Type 0

@@ -5,11 +5,12 @@ use Prim.Native.Nat.{ℕ, zero, suc, _+_, _*_, _<_}
 use native.Mathlib.Nat.{zero-add, zero-mul, add-zero, le-of-suc-le-suc, not-suc-le-zero, mul-le-mul-right}
 use native.Mathlib.Omega.{arith}
 use lib.ListN.{length, getD, List·getD-append}
+use borrow.Author.Tests.{le-leb, lt-leb}
 use lib.Seq.{getD-append-add}
 use lib.IntN.{ℤ, pos}
 use Rattle.read_list.specs.Entries.{entry}
 use Rattle.challenge.specs.Product.{indexOf, outputAt, outputsFrom, product, outputEntries, outputEntriesFrom, productEntries}
-use Rattle.challenge.specs.InOrder.{ProductHalves, ProductListed}
+use Rattle.challenge.specs.InOrder.{ProductHalves, IndexListed, ProductListed}
 use Rattle.challenge.proofs.ProductSizes.{length-outputsFrom, length-product, length-outputEntries, length-outputEntriesFrom}
 
 -- ** Outputs
@@ -54,6 +55,9 @@ half-listed n base challenge start (suc count) (suc i) k h g =
     ap (λ (m : ℕ). getD (here ++ outputEntriesFrom n base challenge (suc start) count) m 0) place ∙ getD-append-add here (outputEntriesFrom n base challenge (suc start) count) (i * length challenge + k) 0
     ∙ half-listed n base challenge (suc start) count i k (le-of-suc-le-suc h) g ∙ ap (λ (j : ℕ). entry 8 (base + indexOf n j (getD challenge k 0))) (omega arith)
 
+index-listed : (n base i c : ℕ) {listed : ℕ} → listed ≡ entry 8 (base + indexOf n i c) → IndexListed n base i c listed
+index-listed n base i c e = record { direct = λ h. rw (le-leb c i h) at e; wrapped = λ h. rw (lt-leb c i h) at e }
+
 pub product-listed : ProductListed
 unfolding productEntries
 product-listed n challenge =
@@ -61,10 +65,16 @@ product-listed n challenge =
     let s2 = outputEntriesFrom n n challenge 0 n in
     let l = length-outputEntriesFrom n 0 challenge 0 n in
     record {
-      first = λ i k h g. List·getD-append s1 s2 0 (i * length challenge + k) (omega (arith, mul-le-mul-right (length challenge) h)) ∙ half-listed n 0 challenge 0 n i k h g ∙ ap (entry 8) (zero-add _) ∙ ap (λ (j : ℕ). entry 8 (indexOf n j (getD challenge k 0))) (zero-add i);
+      first = λ i k h g.
+          index-listed n 0 i (getD challenge k 0)
+          (List·getD-append s1 s2 0 (i * length challenge + k) (omega (arith, mul-le-mul-right (length challenge) h)) ∙ half-from-0 0 i k h g);
       second = λ i k h g.
-          ap (λ (m : ℕ). getD (s1 ++ s2) m 0) (behind-first i k) ∙ getD-append-add s1 s2 (i * length challenge + k) 0 ∙ half-listed n n challenge 0 n i k h g ∙ ap (λ (j : ℕ). entry 8 (n + indexOf n j (getD challenge k 0))) (zero-add i);
+          index-listed n n i (getD challenge k 0)
+          (ap (λ (m : ℕ). getD (s1 ++ s2) m 0) (behind-first i k) ∙ getD-append-add s1 s2 (i * length challenge + k) 0 ∙ half-from-0 n i k h g);
     }
   where
+    half-from-0 : (base i k : ℕ) → i < n → k < length challenge → getD (outputEntriesFrom n base challenge 0 n) (i * length challenge + k) 0 ≡ entry 8 (base + indexOf n i (getD challenge k 0))
+    half-from-0 base i k h g = half-listed n base challenge 0 n i k h g ∙ ap (λ (j : ℕ). entry 8 (base + indexOf n j (getD challenge k 0))) (zero-add i)
+
     behind-first : (i k : ℕ) → (n + i) * length challenge + k ≡ length (outputEntriesFrom n 0 challenge 0 n) + (i * length challenge + k)
     behind-first i k = omega (arith, length-outputEntriesFrom n 0 challenge 0 n)

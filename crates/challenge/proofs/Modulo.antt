@@ -1,7 +1,7 @@
 -- The challenge product is the product modulo X ^ n + 1. Assumes nothing.
 use mathlib.Core.Path.{_≡_, refl, sym, ap, ap₂, _∙_}
 use mathlib.Core.Bool.{Bool, true, false}
-use mathlib.Core.List.{List, [], _∷_}
+use mathlib.Core.List.{List, [], _∷_, _++_}
 use Prim.Native.Nat.{ℕ, suc, _+_, _-_, _*_, _≤_, _<_}
 use native.Mathlib.Omega.{arith}
 use lib.Dec.{leb}
@@ -9,8 +9,7 @@ use lib.ListN.{length, getD}
 use lib.IntN.{ℤ, pos, negℤ, _+ℤ_, _-ℤ_, +ℤ-idl, +ℤ-idr, +ℤ-assoc, +ℤ-comm, negℤ-+ℤ}
 use borrow.Author.Tests.{leb-true, leb-false, le-leb, lt-leb, lt-ltb, le-ltb}
 use Rattle.challenge.specs.Product.{termAt, outputAt}
-use Rattle.challenge.specs.Modulo.{shiftedAt, coefficientAt, ProductModulo}
-use Rattle.challenge.proofs.Positions.{position-below}
+use Rattle.challenge.specs.Modulo.{shiftedAt, coefficientAt, ProductModulo, OutputByOneMore}
 
 -- ** One position
 
@@ -76,5 +75,21 @@ module _ (key : List ℤ) (n base : ℕ) where
       (+ℤ-idl (coefficientAt key n base k challenge) ∙ no-coefficient k far challenge (λ j l. below (suc j) (omega arith)))
 
 pub product-modulo : ProductModulo
-product-modulo key n base challenge below =
-    (λ i h. output-modulo key n base i h challenge (λ k l. position-below n challenge k below l), λ k far. no-coefficient key n base k far challenge (λ j l. position-below n challenge j below l))
+product-modulo key n base challenge below = (λ i h. output-modulo key n base i h challenge below, λ k far. no-coefficient key n base k far challenge below)
+
+-- ** One position more
+
+output-more : (key : List ℤ) (n base i : ℕ) (challenge : List ℕ) (c : ℕ) → outputAt key n base i (challenge ++ (c ∷ [])) ≡ outputAt key n base i challenge +ℤ termAt key n base i c
+unfolding outputAt
+output-more key n base i [] c = +ℤ-idr (termAt key n base i c) ∙ sym (+ℤ-idl (termAt key n base i c))
+output-more key n base i (d ∷ challenge) c =
+    ap (λ (x : ℤ). termAt key n base i d +ℤ x) (output-more key n base i challenge c)
+    ∙ sym (+ℤ-assoc (termAt key n base i d) (outputAt key n base i challenge) (termAt key n base i c))
+
+pub output-by-one-more : OutputByOneMore
+unfolding outputAt
+output-by-one-more key n base i challenge c = record {
+  none = refl;
+  direct = λ h. output-more key n base i challenge c ∙ ap (λ (x : ℤ). outputAt key n base i challenge +ℤ x) (term-direct key n base i c h);
+  wrapped = λ h. output-more key n base i challenge c ∙ ap (λ (x : ℤ). outputAt key n base i challenge +ℤ x) (term-wrapped key n base i c h);
+}

@@ -6,7 +6,7 @@ use native.Mathlib.Omega.{arith}
 use lib.Dec.{ltb}
 use lib.ListN.{getD}
 use borrow.Author.Tests.{le-leb, lt-leb, lt-ltb, le-ltb}
-use Rattle.exponential.specs.Exponential.{polynomialEntry, polynomial, reciprocal, scaled, evaluate, squared, squarings, expScaled, expWith, ExponentialInTurn, limit, expOrRefusal, ExponentialAlone}
+use Rattle.exponential.specs.Exponential.{polynomialEntry, polynomial, reciprocal, scaled, evaluate, squared, squarings, expScaled, expWith, divisor, exp, ExponentialInTurn, limit, expOrRefusal, ExponentialAlone}
 use Rattle.exponential.proofs.Table.{table-at}
 
 -- ** In turn
@@ -50,13 +50,13 @@ module _ (q n : ℕ) where
       ∙ ap (squarings 6) (evaluated-on 20 0 refl) ∙ squared-on 6 20 (omega arith) refl
 
 pub exponential-in-turn : ExponentialInTurn
-unfolding numbers
-exponential-in-turn q n = record {
-  a = numbers q n;
+unfolding numbers exp
+exponential-in-turn n = record {
+  a = numbers divisor n;
   start = refl;
-  evaluated = evaluated-next q n;
-  squared-next = λ i low high. squared-next q n i low;
-  last = last-is q n;
+  evaluated = evaluated-next divisor n;
+  squared-next = λ i low high. squared-next divisor n i low;
+  last = last-is divisor n;
 }
 
 -- ** By N alone

@@ -104,9 +104,9 @@ pub record InTurn (q n e : ℕ) : Type 0 where
   pub squared-next : (i : ℕ) → 20 ≤ i → i < 26 → a (suc i) ≡ a i * a i / 2 ^ 62
   pub last : e ≡ a 26
 
--- so is e(N)
+-- so is e(N), at the divisor 5,916,800
 abbrev pub ExponentialInTurn : Type 0
-ExponentialInTurn = (q n : ℕ) → InTurn q n (expWith polynomial q n)
+ExponentialInTurn = (n : ℕ) → InTurn 5916800 n (exp n)
 
 -- up to 5,534,960 it is e(N), and above it refusal 12
 pub record Alone (n result : ℕ) : Type 0 where

@@ -14,7 +14,7 @@ use Rattle.signed.specs.Vectors.{squareSum, innerProduct}
 use Rattle.exponential.specs.Exponential.{factorial, entriesFrom, polynomial, reciprocal, scaled, evaluate, squared, squarings, expScaled, expWith, exp, expOrRefusal}
 use Rattle.base_sample.specs.BaseSample.{wordsSmall, neverFalls, isCdt, atOrBelow, baseSample}
 use Rattle.known_points.specs.EvenThresholds.{thresholdsFrom, evenThresholds}
-use Rattle.base_sample.proofs.BaseSampleLaws.{base-sample-exactly, base-sample-rises}
+use Rattle.base_sample.proofs.BaseSampleLaws.{rising, base-sample-exactly, base-sample-rises}
 use Rattle.attempt.specs.Attempt.{accepts, sample, bitAt, sampleAt}
 use Rattle.challenge.specs.Product.{termAt, outputAt, outputsFrom, product}
 use Rattle.acceptance.specs.Acceptance.{coshPasses, allPass, acceptsBy}
@@ -51,7 +51,7 @@ bit-0-of-odd rest = omega arith
 -- ** Base sample
 
 at-most-10 : (cdt : List ℕ) (d : ℕ) → neverFalls cdt ≡ true → baseSample cdt d ≤ 10
-at-most-10 cdt d never = base-sample-exactly cdt d (baseSample cdt d) never .0 refl .at-most
+at-most-10 cdt d never = base-sample-exactly cdt d (baseSample cdt d) (rising cdt never) .0 refl .at-most
 
 ten-above : (cdt : List ℕ) (d d′ : ℕ) → neverFalls cdt ≡ true → baseSample cdt d ≡ 10 → d ≤ d′ → baseSample cdt d′ ≡ 10
 ten-above cdt d d′ never ten h = omega (arith, at-most-10 cdt d′ never, base-sample-rises cdt d d′ h)

@@ -8,7 +8,10 @@ use borrow.Author.Tests.{le-leb, lt-leb}
 use lib.Arith.{digits-div, digits-mod}
 use lib.ListN.{length, getD, take, drop, set}
 use lib.Seq.{sets, sets-eq, length-sets, take-append-seam, drop-append-seam, drop-length}
-use Rattle.read_list.specs.Entries.{entry, kindOf, placeOf, placesUp, placesDown, filledPart, FilledUpTo}
+use Rattle.read_list.specs.Entries.{entry, kindOf, placeOf, placesUp, placesDown, filledPart, EntryIs, FilledUpTo}
+
+pub entry-is : EntryIs
+entry-is kind place = refl
 
 -- ** An entry taken apart
 

@@ -32,6 +32,10 @@ filledPart list count = cond (leb count (length list)) (take count list) []
 
 -- ** What follows
 
+-- an entry is kind * 2 ^ 24 + place
+abbrev pub EntryIs : Type 0
+EntryIs = (kind place : ℕ) → entry kind place ≡ kind * 2 ^ 24 + place
+
 -- a count up to the list's length gets so many entries from its start; one over it none
 pub record Filled (list : List ℕ) (count : ℕ) (part : List ℕ) : Type 0 where
   pub up-to : count ≤ length list → part ≡ take count list

@@ -92,8 +92,8 @@ product-with n challenge more =
     let halves = product-listed n challenge in
     let l = length-productEntries n challenge in
     record {
-      first = λ i k h g. List·getD-append entries more 0 (i * length challenge + k) (omega (arith, mul-le-mul-right (length challenge) h)) ∙ halves .first i k h g;
-      second = λ i k h g. List·getD-append entries more 0 ((n + i) * length challenge + k) (omega (arith, mul-le-mul-right (length challenge) h)) ∙ halves .second i k h g;
+      first = λ i k h g. rw (List·getD-append entries more 0 (i * length challenge + k) (omega (arith, mul-le-mul-right (length challenge) h))) (halves .first i k h g);
+      second = λ i k h g. rw (List·getD-append entries more 0 ((n + i) * length challenge + k) (omega (arith, mul-le-mul-right (length challenge) h))) (halves .second i k h g);
     }
 
 pub respond-lists : RespondLists

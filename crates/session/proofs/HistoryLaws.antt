@@ -34,7 +34,7 @@ any-calls-link s y (c ∷ calls) = let left = leftBy s (lending y c) in ((λ h. 
 -- ** One call before others
 
 -- what a draw wrote is its filled part, and no more than its list holds
-draw-filled : (s : Session) (d : Draw) → let left = drawLeft s d in filledPart (left .list) (left .drawn .answer .entries) ≡ take (left .drawn .answer .entries) (left .list)
+pub draw-filled : (s : Session) (d : Draw) → let left = drawLeft s d in filledPart (left .list) (left .drawn .answer .entries) ≡ take (left .drawn .answer .entries) (left .list)
 unfolding drawServed drawRefused sampledBy
 draw-filled s d =
     by-refusal (refusalOfDraw s d)
@@ -42,17 +42,18 @@ draw-filled s d =
     (λ h. rw (refused-draw-leaves s d h) (filled-up-to (d .list) 0 .up-to (omega arith)))
 
 pub every-draw-adds : EveryDrawAdds
-unfolding readList history seen leftBy eventOf
+unfolding Linked readList history seen leftBy eventOf
 every-draw-adds s d calls =
     let left = drawLeft s d in
     record {
       reads = ap (λ (l : List ℕ). l ++ readList (left .drawn .session) calls) (draw-filled s d);
       served = λ h. rw (eq-eqb (left .drawn .answer .refusal) 0 h);
       refused = λ h. rw (ne-eqb (left .drawn .answer .refusal) 0 h);
+      links = λ h y linked. ((λ g. absurd (h g)), rw (ne-eqb (left .drawn .answer .refusal) 0 h) linked);
       seen-first = refl;
     }
 
-respond-filled : (s : Session) (r : Respond) → let left = respondLeft s r in filledPart (left .list) (left .responded .answer .entries) ≡ take (left .responded .answer .entries) (left .list)
+pub respond-filled : (s : Session) (r : Respond) → let left = respondLeft s r in filledPart (left .list) (left .responded .answer .entries) ≡ take (left .responded .answer .entries) (left .list)
 unfolding respondServed respondRefused respondedBy
 respond-filled s r =
     by-refusal (refusalOfRespond s r)
@@ -68,12 +69,13 @@ respond-bit s r =
     (λ h. rw (refused-respond-leaves s r h) (λ g. absurd (h g)))
 
 pub every-respond-adds : EveryRespondAdds
-unfolding readList history seen leftBy eventOf
+unfolding Linked readList history seen leftBy eventOf
 every-respond-adds s r calls =
     let left = respondLeft s r in
     record {
       reads = ap (λ (l : List ℕ). l ++ readList (left .responded .session) calls) (respond-filled s r);
       served = λ h. rw (eq-eqb (left .responded .answer .refusal) 0 h, respond-bit s r h);
       refused = λ h. rw (ne-eqb (left .responded .answer .refusal) 0 h);
+      links = λ h y linked. ((λ g. absurd (h g)), rw (ne-eqb (left .responded .answer .refusal) 0 h) linked);
       seen-first = refl;
     }

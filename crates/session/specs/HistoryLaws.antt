@@ -41,12 +41,13 @@ AnyCallsLink = (s : Session) (y : List ℤ) (calls : List Call) → Linked s y (
 -- ** One call before others
 
 -- a draw: the entries that its answer counts stand first, and so does its event where it is not refused; the others follow from the next
--- session
+-- session. Refused, it adds no event, and may be lent any y
 pub record DrawAdds (s : Session) (d : Draw) (left : DrawLeft) (calls : List Call) : Type 0 where
   pub reads : readList s (draw d ∷ calls) ≡ take (left .drawn .answer .entries) (left .list) ++ readList (left .drawn .session) calls
   pub served : left .drawn .answer .refusal ≡ 0
       → history s (draw d ∷ calls) ≡ drew (s .degree) (bitsOfDraw s d) ∷ history (left .drawn .session) calls
   pub refused : left .drawn .answer .refusal ≢ 0 → history s (draw d ∷ calls) ≡ history (left .drawn .session) calls
+  pub links : left .drawn .answer .refusal ≢ 0 → (y : List ℤ) → Linked (left .drawn .session) y calls → Linked s y (draw d ∷ calls)
   pub seen-first : seen s (draw d ∷ calls) ≡ sampled (left .drawn) (left .y) ∷ seen (left .drawn .session) calls
 
 abbrev pub EveryDrawAdds : Type 0
@@ -60,6 +61,7 @@ pub record RespondAdds (s : Session) (r : Respond) (left : RespondLeft) (calls :
       → history s (respond r ∷ calls)
       ≡ answered (s .degree) (left .responded .answer .bit) (r .challenge) ∷ history (left .responded .session) calls
   pub refused : left .responded .answer .refusal ≢ 0 → history s (respond r ∷ calls) ≡ history (left .responded .session) calls
+  pub links : left .responded .answer .refusal ≢ 0 → (y : List ℤ) → Linked (left .responded .session) y calls → Linked s y (respond r ∷ calls)
   pub seen-first : seen s (respond r ∷ calls) ≡ answer (left .responded) (left .y) (left .z) ∷ seen (left .responded .session) calls
 
 abbrev pub EveryRespondAdds : Type 0

@@ -4,3 +4,4 @@ pub mod ByRule
 pub mod Histories
 pub mod Demand3
 pub mod HistoryLaws
+pub mod PremiseLaws
