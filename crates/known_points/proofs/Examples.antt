@@ -26,6 +26,7 @@ examples = record {
   entry-1 = refl;
   entry-19 = refl;
   entry-20 = refl;
+  entries-are = refl;
   divisor-by-64 = refl;
   twice-215-squared = refl;
   norm-limit = refl;
