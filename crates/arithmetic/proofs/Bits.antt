@@ -4,7 +4,7 @@ use mathlib.Core.Bool.{Bool, true, false}
 use Prim.Native.Nat.{_≤_}
 use native.Mathlib.Omega.{arith}
 use lib.Dec.{eqb}
-use Rattle.arithmetic.specs.Words.{bit}
+use Rattle.arithmetic.specs.Words.{ValueByItsWords, bit}
 
 pub bit-le : (t : Bool) → bit t ≤ 1
 bit-le true = omega arith
@@ -19,3 +19,6 @@ bit-injective true true e = refl
 bit-injective true false e = absurd (omega arith)
 bit-injective false true e = absurd (omega arith)
 bit-injective false false e = refl
+
+pub value-by-its-words : ValueByItsWords
+value-by-its-words w = refl

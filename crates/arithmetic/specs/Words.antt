@@ -1,4 +1,5 @@
 -- Numbers of two words, and tests as numbers. Assumes nothing.
+use mathlib.Core.Path.{_≡_}
 use mathlib.Core.Bool.{Bool, true, false}
 use Prim.Native.Nat.{ℕ, _+_, _*_, _%_, _^_}
 use Rattle.arithmetic.specs.declared.Wide.{Wide}
@@ -15,3 +16,9 @@ value w = w .high * 2 ^ 64 + w .low
 abbrev pub bit : Bool → ℕ
 bit true = 1
 bit false = 0
+
+-- ** What follows
+
+-- the high word counts 2 ^ 64, and the low word 1
+abbrev pub ValueByItsWords : Type 0
+ValueByItsWords = (w : Wide) → value w ≡ w .high * 2 ^ 64 + w .low

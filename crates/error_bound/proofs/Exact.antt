@@ -1,14 +1,15 @@
 -- The exact fraction's numerator, an integer, as the difference of the sums of its even and of its odd terms. Assumes nothing.
 use mathlib.Core.Path.{_≡_, refl, sym, ap, ap₂, subst⁻¹, _∙_}
 use mathlib.Core.Bool.{Bool, true, false, cond}
-use Prim.Native.Nat.{ℕ, zero, suc, _+_, _-_, _*_, _^_, _≤_}
-use native.Mathlib.Nat.{mul-zero, zero-mul, pow-suc, pow-zero, sub-add-cancel}
+use Prim.Native.Nat.{ℕ, zero, suc, _+_, _-_, _*_, _^_, _≤_, _<_}
+use native.Mathlib.Nat.{mul-zero, zero-mul, mul-pos, pow-suc, pow-zero, sub-add-cancel, le-of-mul-le-mul-right}
 use native.Mathlib.Numerals.{add-one}
 use native.Mathlib.Omega.{arith}
 use lib.Dec.{ltb}
 use lib.IntN.{ℤ, pos, negsuc, one, negℤ, natAbs, pow, _+ℤ_, _-ℤ_, _*ℤ_, +ℤ-assoc, +ℤ-comm, +ℤ-negℤ-cancel, negℤ-+ℤ}
-use borrow.Author.Tests.{ltb-true}
-use Rattle.error_bound.specs.Exact.{sumℤ, coefficient, term, numerator, denominator, Within}
+use borrow.Author.Tests.{ltb-true, ltb-false}
+use Rattle.exponential.proofs.Table.{factorial-pos}
+use Rattle.error_bound.specs.Exact.{sumℤ, coefficient, term, numerator, denominator, Within, WithinIsNear}
 
 -- f 0 + f 1 + .. + f (k - 1)
 unfoldable pub sum : (ℕ → ℕ) → ℕ → ℕ
@@ -110,3 +111,36 @@ within k x q n h u l =
     let S = 2 ^ 62 * (added q n - taken q n) ^ 64 in
     subst⁻¹ (λ (z : ℤ). natAbs (pos X -ℤ pos (2 ^ 62) *ℤ z) ≤ k * denominator q ^ 64) (numerator-power q n h)
     (distance X S (k * denominator q ^ 64) u l)
+
+-- ** The distance of numbers near one fraction
+
+above-by : (a b k : ℕ) → natAbs (pos a -ℤ pos b) ≤ k → (a ≤ b + k) × (b ≤ a + k)
+above-by a zero k h = (omega arith, omega arith)
+above-by a (suc b) k h = by (ltb a (suc b)) refl h
+  where
+    by : (t : Bool) → ltb a (suc b) ≡ t → natAbs (cond t (negsuc (suc b - suc a)) (pos (a - suc b))) ≤ k → (a ≤ suc b + k) × (suc b ≤ a + k)
+    by true e g = let l = ltb-true a (suc b) e in (omega arith, omega arith)
+    by false e g = (omega arith, let l = ltb-false a (suc b) e in omega arith)
+
+apart : (a b k l : ℕ) (f : ℤ) → natAbs (pos a -ℤ f) ≤ k → natAbs (pos b -ℤ f) ≤ l → a ≤ b + (k + l)
+apart a b k l (pos m) h g = omega (arith, above-by a m k h .0, above-by b m l g .1)
+apart a b k l (negsuc m) h g = omega arith
+
+positive-power : (m k : ℕ) → 0 < m → 0 < m ^ k
+positive-power m zero h = rw pow-zero (omega arith)
+positive-power m (suc k) h = rw pow-suc (mul-pos (positive-power m k h) h)
+
+positive-denominator : (q : ℕ) → 0 < q → 0 < denominator q
+unfolding denominator
+positive-denominator q h = mul-pos (positive-power q 20 h) (factorial-pos 20)
+
+-- the common factor of a distance falls away
+cancel : (x y k l d : ℕ) → 0 < d → x * d ≤ y * d + (k * d + l * d) → x ≤ y + (k + l)
+cancel x y k l d h g = le-of-mul-le-mul-right {k = d} (omega arith) h
+
+pub within-is-near : WithinIsNear
+unfolding Within
+within-is-near k l x y q n h near-x near-y =
+    let d = denominator q ^ 64 in
+    let exact = pos (2 ^ 62) *ℤ pow (numerator q n) 64 in
+    cancel x y k l d (positive-power (denominator q) 64 (positive-denominator q h)) (apart (x * d) (y * d) (k * d) (l * d) exact near-x near-y)

@@ -1,7 +1,7 @@
 -- The exact fraction that e(N) stands for: the 64th power of the sum over j = 0..20 of (-N / q) ^ j / j!.
 -- It is written over integers: each term of the sum has the denominator q ^ 20 * 20!. Assumes nothing.
 use mathlib.Core.Path.{_≡_}
-use Prim.Native.Nat.{ℕ, zero, suc, _+_, _-_, _*_, _^_, _≤_}
+use Prim.Native.Nat.{ℕ, zero, suc, _+_, _-_, _*_, _^_, _≤_, _<_}
 use lib.IntN.{ℤ, pos, negℤ, natAbs, pow, _+ℤ_, _-ℤ_, _*ℤ_}
 use Rattle.exponential.specs.Exponential.{factorial}
 
@@ -37,3 +37,7 @@ CommonDenominator = (q j : ℕ) → j ≤ 20 → coefficient q j * (q ^ j * fact
 -- x units of 2 ^ -62 differ from (numerator / denominator) ^ 64 by at most k units: | x - 2 ^ 62 * (numerator / denominator) ^ 64 | ≤ k, multiplied by denominator ^ 64
 unfoldable pub Within : (k x q n : ℕ) → Type 0
 Within k x q n = natAbs (pos (x * denominator q ^ 64) -ℤ pos (2 ^ 62) *ℤ pow (numerator q n) 64) ≤ k * denominator q ^ 64
+
+-- it is a distance: two numbers of units, within k and within l units of one exact fraction, differ by at most k + l
+abbrev pub WithinIsNear : Type 0
+WithinIsNear = (k l x y q n : ℕ) → 0 < q → Within k x q n → Within l y q n → x ≤ y + (k + l)

@@ -17,7 +17,7 @@ use Rattle.session.specs.declared.Session.{Session}
 use Rattle.session.specs.Calls.{Draw, refusalOfDraw, drawRefused, drawServed, drawLeft, Respond, refusalOfRespond, bitOfRespond, respondRefused, respondServed, respondLeft}
 use Rattle.session.specs.Histories.{Call, draw, respond, leftBy, refusalIn, nextIn, yIn, lentY, Linked, readList, eventOf, history}
 use Rattle.session.specs.Demand3.{seen}
-use Rattle.session.specs.HistoryLaws.{lending, threaded, AnyCallsLink, EveryDrawAdds, EveryRespondAdds}
+use Rattle.session.specs.HistoryLaws.{lending, threaded, AnyCallsLink, NoCallsAddNothing, EveryDrawAdds, EveryRespondAdds}
 use Rattle.session.proofs.Calls.{by-refusal, draw-entries-fit, served-draw-leaves, refused-draw-leaves, respond-entries-fit, served-respond-leaves, refused-respond-leaves}
 
 -- ** Any calls can be linked
@@ -30,6 +30,12 @@ pub any-calls-link : AnyCallsLink
 unfolding Linked threaded
 any-calls-link s y [] = tt
 any-calls-link s y (c ∷ calls) = let left = leftBy s (lending y c) in ((λ h. lends y c), any-calls-link (nextIn left) (cond (eqb (refusalIn left) 0) (yIn left) y) calls)
+
+-- ** No calls
+
+pub no-calls-add-nothing : NoCallsAddNothing
+unfolding readList history seen
+no-calls-add-nothing s = record { reads = refl; history-is = refl; seen-is = refl }
 
 -- ** One call before others
 
@@ -49,7 +55,8 @@ every-draw-adds s d calls =
       reads = ap (λ (l : List ℕ). l ++ readList (left .drawn .session) calls) (draw-filled s d);
       served = λ h. rw (eq-eqb (left .drawn .answer .refusal) 0 h);
       refused = λ h. rw (ne-eqb (left .drawn .answer .refusal) 0 h);
-      links = λ h y linked. ((λ g. absurd (h g)), rw (ne-eqb (left .drawn .answer .refusal) 0 h) linked);
+      links-served = λ h linked. ((λ g. refl), rw (eq-eqb (left .drawn .answer .refusal) 0 h) linked);
+      links-refused = λ h y linked. ((λ g. absurd (h g)), rw (ne-eqb (left .drawn .answer .refusal) 0 h) linked);
       seen-first = refl;
     }
 
@@ -76,6 +83,7 @@ every-respond-adds s r calls =
       reads = ap (λ (l : List ℕ). l ++ readList (left .responded .session) calls) (respond-filled s r);
       served = λ h. rw (eq-eqb (left .responded .answer .refusal) 0 h, respond-bit s r h);
       refused = λ h. rw (ne-eqb (left .responded .answer .refusal) 0 h);
-      links = λ h y linked. ((λ g. absurd (h g)), rw (ne-eqb (left .responded .answer .refusal) 0 h) linked);
+      links-served = λ h linked. ((λ g. refl), rw (eq-eqb (left .responded .answer .refusal) 0 h) linked);
+      links-refused = λ h y linked. ((λ g. absurd (h g)), rw (ne-eqb (left .responded .answer .refusal) 0 h) linked);
       seen-first = refl;
     }

@@ -38,16 +38,29 @@ threaded s y (c ∷ calls) =
 abbrev pub AnyCallsLink : Type 0
 AnyCallsLink = (s : Session) (y : List ℤ) (calls : List Call) → Linked s y (threaded s y calls)
 
+-- ** No calls
+
+-- nothing is read, nothing is in the history, and nothing is seen
+pub record NoCalls (s : Session) : Type 0 where
+  pub reads : readList s [] ≡ []
+  pub history-is : history s [] ≡ []
+  pub seen-is : seen s [] ≡ []
+
+abbrev pub NoCallsAddNothing : Type 0
+NoCallsAddNothing = (s : Session) → NoCalls s
+
 -- ** One call before others
 
 -- a draw: the entries that its answer counts stand first, and so does its event where it is not refused; the others follow from the next
--- session. Refused, it adds no event, and may be lent any y
+-- session. Others that are lent y as it leaves it are linked behind it; refused, it adds no event, and may be lent any y
 pub record DrawAdds (s : Session) (d : Draw) (left : DrawLeft) (calls : List Call) : Type 0 where
   pub reads : readList s (draw d ∷ calls) ≡ take (left .drawn .answer .entries) (left .list) ++ readList (left .drawn .session) calls
   pub served : left .drawn .answer .refusal ≡ 0
       → history s (draw d ∷ calls) ≡ drew (s .degree) (bitsOfDraw s d) ∷ history (left .drawn .session) calls
   pub refused : left .drawn .answer .refusal ≢ 0 → history s (draw d ∷ calls) ≡ history (left .drawn .session) calls
-  pub links : left .drawn .answer .refusal ≢ 0 → (y : List ℤ) → Linked (left .drawn .session) y calls → Linked s y (draw d ∷ calls)
+  pub links-served : left .drawn .answer .refusal ≡ 0 → Linked (left .drawn .session) (left .y) calls → Linked s (d .y) (draw d ∷ calls)
+  pub links-refused : left .drawn .answer .refusal ≢ 0
+      → (y : List ℤ) → Linked (left .drawn .session) y calls → Linked s y (draw d ∷ calls)
   pub seen-first : seen s (draw d ∷ calls) ≡ sampled (left .drawn) (left .y) ∷ seen (left .drawn .session) calls
 
 abbrev pub EveryDrawAdds : Type 0
@@ -61,7 +74,10 @@ pub record RespondAdds (s : Session) (r : Respond) (left : RespondLeft) (calls :
       → history s (respond r ∷ calls)
       ≡ answered (s .degree) (left .responded .answer .bit) (r .challenge) ∷ history (left .responded .session) calls
   pub refused : left .responded .answer .refusal ≢ 0 → history s (respond r ∷ calls) ≡ history (left .responded .session) calls
-  pub links : left .responded .answer .refusal ≢ 0 → (y : List ℤ) → Linked (left .responded .session) y calls → Linked s y (respond r ∷ calls)
+  pub links-served : left .responded .answer .refusal ≡ 0
+      → Linked (left .responded .session) (left .y) calls → Linked s (r .y) (respond r ∷ calls)
+  pub links-refused : left .responded .answer .refusal ≢ 0
+      → (y : List ℤ) → Linked (left .responded .session) y calls → Linked s y (respond r ∷ calls)
   pub seen-first : seen s (respond r ∷ calls) ≡ answer (left .responded) (left .y) (left .z) ∷ seen (left .responded .session) calls
 
 abbrev pub EveryRespondAdds : Type 0
