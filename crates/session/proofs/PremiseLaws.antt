@@ -1,6 +1,6 @@
 -- What demand 3's second half asks of two lists of calls is no more than document 01 says. Assumes nothing.
-use mathlib.Core.Path.{_≡_, refl, subst}
-use mathlib.Core.List.{List, List·Memᴰ}
+use mathlib.Core.Path.{refl, subst}
+use mathlib.Core.List.{List·Memᴰ}
 use borrow.Author.Tests.{eq-eqb}
 use Rattle.session.specs.Histories.{leftBy, Linked}
 use Rattle.session.specs.Demand3.{NoneRefused, AllAlike, Agreeing}
