@@ -1,4 +1,4 @@
--- Tests as numbers. Assumes nothing.
+-- Tests as numbers, and the number that two words are. Assumes nothing.
 use mathlib.Core.Path.{_≡_, refl}
 use mathlib.Core.Bool.{Bool, true, false}
 use Prim.Native.Nat.{_≤_}

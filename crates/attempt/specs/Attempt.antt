@@ -69,12 +69,14 @@ AttemptByItsWords = (e : ℕ → ℕ) (cdt words : List ℕ) (t : ℕ) → ByIts
 -- and sign 1); its sample is the size, negative where the sign is 1
 pub record ByRule (e : ℕ → ℕ) (x third fourth : ℕ) (accepted : Bool) (value : ℤ) : Type 0 where
   pub bit : (accepted ≡ true)
-      ↔ ((fourth % 2 ^ 62 < e (third % 256 * (third % 256 + 512 * x))) × ((256 * x + third % 256 ≡ 0) × (third / 256 % 2 ≡ 1) → ⊥))
+      ↔ ((fourth % 2 ^ 62 < e (third % 256 * (third % 256 + 512 * x)))
+      × ((256 * x + third % 256 ≡ 0) × (third / 256 % 2 ≡ 1) → ⊥))
   pub plus : third / 256 % 2 ≡ 0 → value ≡ pos (256 * x + third % 256)
   pub minus : third / 256 % 2 ≡ 1 → value ≡ negℤ (pos (256 * x + third % 256))
 
 abbrev pub AttemptByRule : Type 0
-AttemptByRule = (e : ℕ → ℕ) (cdt : List ℕ) (first second third fourth : ℕ) → let words = first ∷ second ∷ third ∷ fourth ∷ [] in
+AttemptByRule =
+    (e : ℕ → ℕ) (cdt : List ℕ) (first second third fourth : ℕ) → let words = first ∷ second ∷ third ∷ fourth ∷ [] in
     ByRule e (baseSample cdt (first % 2 ^ 62 * 2 ^ 62 + second % 2 ^ 62)) third fourth (bitAt e cdt words 0) (sampleAt cdt words 0)
 
 -- ** What an attempt asks for

@@ -50,11 +50,11 @@ pub record AtJust (cdt : List ℕ) (d count x : ℕ) : Type 0 where
 abbrev pub ThresholdByItsWords : Type 0
 ThresholdByItsWords = (cdt : List ℕ) (i : ℕ) → threshold cdt i ≡ getD cdt (2 * i) 0 * 2 ^ 62 + getD cdt (2 * i + 1) 0
 
--- thresholds that never fall
+-- the thresholds never fall, as a statement
 abbrev pub Rising : (cdt : List ℕ) → Type 0
 Rising cdt = (i : ℕ) → i < 9 → threshold cdt i ≤ threshold cdt (suc i)
 
--- where they do not, the base sample is x exactly when d is at or above just x thresholds
+-- then the base sample is x exactly when d is at or above just x thresholds
 abbrev pub BaseSampleExactly : Type 0
 BaseSampleExactly = (cdt : List ℕ) (d x : ℕ) → Rising cdt → (baseSample cdt d ≡ x) ↔ AtJust cdt d 10 x
 

@@ -31,7 +31,8 @@ pub record OneMore (key : List ℤ) (n base i : ℕ) (challenge : List ℕ) (c :
   pub direct : c ≤ i
       → outputAt key n base i (challenge ++ (c ∷ [])) ≡ outputAt key n base i challenge +ℤ getD key (base + (i - c)) (pos 0)
   pub wrapped : i < c
-      → outputAt key n base i (challenge ++ (c ∷ [])) ≡ outputAt key n base i challenge +ℤ negℤ (getD key (base + (i + n - c)) (pos 0))
+      → outputAt key n base i (challenge ++ (c ∷ []))
+      ≡ outputAt key n base i challenge +ℤ negℤ (getD key (base + (i + n - c)) (pos 0))
 
 abbrev pub OutputByOneMore : Type 0
 OutputByOneMore = (key : List ℤ) (n base i : ℕ) (challenge : List ℕ) (c : ℕ) → OneMore key n base i challenge c

@@ -139,7 +139,8 @@ pub record Demand3Instance : Type 0 where
   pub seen-same : seen start calls ≡ seen start calls′
   pub reads-same : readList start calls ≡ readList start calls′
   -- what both give: 1 to 8, in this order; then z, all of y + Sc, Sc being 2, -2, 0, 2 and 3, -3, 3, -1
-  pub seen-is : seen start calls ≡ drawnOneToEight ∷ answeredBy (pos 3 ∷ pos 0 ∷ pos 3 ∷ pos 6 ∷ pos 8 ∷ pos 3 ∷ pos 10 ∷ pos 7 ∷ []) ∷ []
+  pub seen-is : seen start calls
+      ≡ drawnOneToEight ∷ answeredBy (pos 3 ∷ pos 0 ∷ pos 3 ∷ pos 6 ∷ pos 8 ∷ pos 3 ∷ pos 10 ∷ pos 7 ∷ []) ∷ []
   pub reads-are : readList start calls ≡ drawEntries 4 (replicate 8 true) ++ respondEntries 4 true (0 ∷ 2 ∷ [])
   -- the history of both
   pub history-is : history start calls ≡ drawnAndAnswered (replicate 8 true)

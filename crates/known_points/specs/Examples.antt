@@ -26,6 +26,10 @@ drawOf4 limit cdt table words list = drawRefusal 4 limit cdt table words 8 list
 abbrev pub respondOf4 : (drawn : Bool) (challenge : List ℕ) (key y : List ℤ) (list : ℕ) → ℕ
 respondOf4 drawn challenge key y list = respondRefusal 4 drawn challenge polynomial 3 key y 8 list
 
+-- the refusal of a respond with two words, no list, nothing drawn, and a key and a y out of range
+abbrev pub respondWrong : (n : ℕ) (challenge table : List ℕ) → ℕ
+respondWrong n challenge table = respondRefusal n false challenge table 2 (replicate 8 (pos 8)) (replicate 8 (pos 2816)) 8 0
+
 -- the refusals of openings, one for each number
 unfoldable pub openings : (ns : List ℕ) → List ℕ
 openings [] = []
@@ -48,9 +52,9 @@ pub record Examples : Type 0 where
   pub entry-20 : polynomialEntry 20 ≡ 1
   -- all of them
   pub entries-are : polynomial
-      ≡ 4611686018427387904 ∷ 4611686018427387904 ∷ 2305843009213693952 ∷ 768614336404564650 ∷ 192153584101141162 ∷ 38430716820228232 ∷
-      6405119470038038 ∷ 915017067148291 ∷ 114377133393536 ∷ 12708570377059 ∷ 1270857037705 ∷ 115532457973 ∷ 9627704831 ∷ 740592679 ∷
-      52899477 ∷ 3526631 ∷ 220414 ∷ 12965 ∷ 720 ∷ 37 ∷ 1 ∷ []
+      ≡ 4611686018427387904 ∷ 4611686018427387904 ∷ 2305843009213693952 ∷ 768614336404564650 ∷ 192153584101141162
+      ∷ 38430716820228232 ∷ 6405119470038038 ∷ 915017067148291 ∷ 114377133393536 ∷ 12708570377059 ∷ 1270857037705
+      ∷ 115532457973 ∷ 9627704831 ∷ 740592679 ∷ 52899477 ∷ 3526631 ∷ 220414 ∷ 12965 ∷ 720 ∷ 37 ∷ 1 ∷ []
   -- 5,916,800 = 64 * 92,450, and 92,450 = 2 * 215 ^ 2
   pub divisor-by-64 : divisor ≡ 64 * 92450
   pub twice-215-squared : 92450 ≡ 2 * 215 ^ 2
@@ -99,8 +103,8 @@ pub record Examples : Type 0 where
   pub refusal-6-empty : respondOf4 true [] (replicate 8 (pos 0)) (replicate 8 (pos 0)) 47 ≡ 6
   pub refusal-6-position : respondOf4 true (4 ∷ []) (replicate 8 (pos 0)) (replicate 8 (pos 0)) 55 ≡ 6
   -- of several that apply, the first; each with all the later ones
-  pub first-1 : drawRefusal 12 7 (take 19 evenThresholds) (set polynomial 19 38) 0 8 0 ≡ 1
-  pub first-2 : drawOf4 7 (take 19 evenThresholds) (set polynomial 19 38) 0 0 ≡ 2
+  pub first-1 : drawRefusal 12 7 (take 19 (set evenThresholds 18 (2 ^ 62))) (set polynomial 19 38) 0 8 0 ≡ 1
+  pub first-2 : drawOf4 7 (take 19 (set evenThresholds 18 (2 ^ 62))) (set polynomial 19 38) 0 0 ≡ 2
   pub first-3 : drawOf4 7 (set evenThresholds 19 (2 ^ 62)) (set polynomial 19 38) 0 0 ≡ 3
   pub first-4 : drawOf4 7 evenThresholds (set polynomial 19 38) 0 0 ≡ 4
   pub first-5 : drawOf4 7 evenThresholds polynomial 0 0 ≡ 5
@@ -108,11 +112,11 @@ pub record Examples : Type 0 where
   pub first-8 : respondOf4 false (0 ∷ []) (replicate 8 (pos 8)) (replicate 8 (pos 2816)) 54 ≡ 8
   pub first-9 : respondOf4 false (0 ∷ []) (replicate 8 (pos 8)) (replicate 8 (pos 2816)) 55 ≡ 9
   pub first-10 : respondOf4 true (0 ∷ []) (replicate 8 (pos 8)) (replicate 8 (pos 2816)) 55 ≡ 10
-  pub respond-first-1 : respondRefusal 12 false (2 ∷ 2 ∷ []) (take 20 polynomial) 2 (replicate 8 (pos 8)) (replicate 8 (pos 2816)) 8 0 ≡ 1
-  pub respond-first-2 : respondRefusal 4 false (2 ∷ 2 ∷ []) (take 20 polynomial) 2 (replicate 8 (pos 8)) (replicate 8 (pos 2816)) 8 0 ≡ 2
-  pub respond-first-4 : respondRefusal 4 false (2 ∷ 2 ∷ []) (set polynomial 19 38) 2 (replicate 8 (pos 8)) (replicate 8 (pos 2816)) 8 0 ≡ 4
-  pub respond-first-6 : respondRefusal 4 false (2 ∷ 2 ∷ []) polynomial 2 (replicate 8 (pos 8)) (replicate 8 (pos 2816)) 8 0 ≡ 6
-  pub respond-first-7 : respondRefusal 4 false (0 ∷ []) polynomial 2 (replicate 8 (pos 8)) (replicate 8 (pos 2816)) 8 0 ≡ 7
+  pub respond-first-1 : respondWrong 12 (2 ∷ 2 ∷ []) (take 20 polynomial) ≡ 1
+  pub respond-first-2 : respondWrong 4 (2 ∷ 2 ∷ []) (take 20 polynomial) ≡ 2
+  pub respond-first-4 : respondWrong 4 (2 ∷ 2 ∷ []) (set polynomial 19 38) ≡ 4
+  pub respond-first-6 : respondWrong 4 (2 ∷ 2 ∷ []) polynomial ≡ 6
+  pub respond-first-7 : respondWrong 4 (0 ∷ []) polynomial ≡ 7
   -- n = 4: L = 8 and 370 list entries are served, L = 128 with 5,890 too; L = 129 is refusal 5
   pub served-8 : drawOf4 8 evenThresholds polynomial 32 370 ≡ 0
   pub served-128 : drawOf4 128 evenThresholds polynomial 512 5890 ≡ 0

@@ -21,7 +21,8 @@ pub record PlusOrMinus (first : ℕ) (y sc z : List ℤ) : Type 0 where
   pub minus : first % 2 ≡ 1 → (i : ℕ) → i < length y → getD z i (pos 0) ≡ getD y i (pos 0) -ℤ getD sc i (pos 0)
 
 abbrev pub ResponsePlusOrMinus : Type 0
-ResponsePlusOrMinus = (y sc : List ℤ) (words : List ℕ) → length sc ≡ length y → PlusOrMinus (getD words 0 0) y sc (responseZ y sc words)
+ResponsePlusOrMinus =
+    (y sc : List ℤ) (words : List ℕ) → length sc ≡ length y → PlusOrMinus (getD words 0 0) y sc (responseZ y sc words)
 
 -- ** The bit
 
@@ -53,4 +54,5 @@ pub record ResponseListed (n : ℕ) (challenge : List ℕ) (accepted : Bool) (en
       ≡ entry 2 0 ∷ entry 2 1 ∷ entry 2 2 ∷ (placesDown 4 21 ++ (placesDown 4 21 ++ (entry 9 (bit accepted) ∷ [])))
 
 abbrev pub RespondLists : Type 0
-RespondLists = (n : ℕ) (accepted : Bool) (challenge : List ℕ) → ResponseListed n challenge accepted (respondEntries n accepted challenge)
+RespondLists =
+    (n : ℕ) (accepted : Bool) (challenge : List ℕ) → ResponseListed n challenge accepted (respondEntries n accepted challenge)

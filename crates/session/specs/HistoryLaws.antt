@@ -58,7 +58,8 @@ pub record DrawAdds (s : Session) (d : Draw) (left : DrawLeft) (calls : List Cal
   pub served : left .drawn .answer .refusal ≡ 0
       → history s (draw d ∷ calls) ≡ drew (s .degree) (bitsOfDraw s d) ∷ history (left .drawn .session) calls
   pub refused : left .drawn .answer .refusal ≢ 0 → history s (draw d ∷ calls) ≡ history (left .drawn .session) calls
-  pub links-served : left .drawn .answer .refusal ≡ 0 → Linked (left .drawn .session) (left .y) calls → Linked s (d .y) (draw d ∷ calls)
+  pub links-served : left .drawn .answer .refusal ≡ 0
+      → Linked (left .drawn .session) (left .y) calls → Linked s (d .y) (draw d ∷ calls)
   pub links-refused : left .drawn .answer .refusal ≢ 0
       → (y : List ℤ) → Linked (left .drawn .session) y calls → Linked s y (draw d ∷ calls)
   pub seen-first : seen s (draw d ∷ calls) ≡ sampled (left .drawn) (left .y) ∷ seen (left .drawn .session) calls

@@ -48,7 +48,8 @@ pub record SameResponds (r r′ : Respond) (e : ℕ) : Type 0 where
 
 abbrev pub RespondsMeet : Type 0
 RespondsMeet =
-    (s s′ : Session) (r r′ : Respond) (calls calls′ : List Call) → let left = respondLeft s r in let left′ = respondLeft s′ r′ in
+    (s s′ : Session) (r r′ : Respond) (calls calls′ : List Call) →
+    let left = respondLeft s r in let left′ = respondLeft s′ r′ in
     left .responded .answer .refusal ≡ 0 → left′ .responded .answer .refusal ≡ 0 → r .challenge ≡ r′ .challenge
     → ((e : ℕ) → List·Memᴰ e (take (left .responded .answer .entries) (left .list)) → SameResponds r r′ e)
     → Premises (left .responded .session) (left′ .responded .session) (left .y) (left′ .y) calls calls′

@@ -32,4 +32,5 @@ SquaresByOneMore = (values : List ℤ) (v : ℤ) → squareSum (values ++ (v ∷
 -- and two values more their product
 abbrev pub ProductsByOneMore : Type 0
 ProductsByOneMore =
-    (a b : List ℤ) (v w : ℤ) → length a ≡ length b → innerProduct (a ++ (v ∷ [])) (b ++ (w ∷ [])) ≡ innerProduct a b +ℤ (v *ℤ w)
+    (a b : List ℤ) (v w : ℤ) → length a ≡ length b
+    → innerProduct (a ++ (v ∷ [])) (b ++ (w ∷ [])) ≡ innerProduct a b +ℤ (v *ℤ w)
