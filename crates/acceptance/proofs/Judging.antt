@@ -10,7 +10,7 @@ use lib.Seq.{sets}
 use mir.Val.{boolByte}
 use Rattle.arithmetic.specs.Words.{bit}
 use Rattle.read_list.specs.Entries.{entry, placesDown}
-use Rattle.read_list.proofs.Laws.{written-behind}
+use Rattle.read_list.proofs.Written.{written-behind}
 use Rattle.exponential.specs.Exponential.{limit}
 use Rattle.acceptance.specs.Acceptance.{squaresLimit, firstExponent, acceptanceEntries}
 

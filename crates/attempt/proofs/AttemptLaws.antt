@@ -8,7 +8,7 @@ use lib.Dec.{ltb, eqb}
 use lib.ListN.{length, set, getD}
 use lib.Seq.{sets}
 use Rattle.read_list.specs.Entries.{entry, placesUp, placesDown}
-use Rattle.read_list.proofs.Laws.{written-behind}
+use Rattle.read_list.proofs.Written.{written-behind}
 use Rattle.base_sample.specs.BaseSample.{baseSample}
 use Rattle.attempt.specs.Attempt.{size, exponent, accepts, sample, drawAt, bitAt, sampleAt, attemptEntries}
 

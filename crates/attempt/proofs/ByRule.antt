@@ -11,7 +11,7 @@ use lib.ListN.{getD, take, drop, List·getD-append}
 use lib.Seq.{getD-take, getD-drop, getD-append-add}
 use borrow.Author.Tests.{ltb-true, lt-ltb, eqb-true, eq-eqb, ne-eqb}
 use Rattle.read_list.specs.Entries.{entry, placesUp, placesDown}
-use Rattle.read_list.proofs.Laws.{places-up-at, places-down-at}
+use Rattle.read_list.proofs.Runs.{places-up-at, places-down-at}
 use Rattle.attempt.specs.Attempt.{size, exponent, accepts, sample, bitAt, sampleAt, AttemptByItsWords, AttemptByRule, attemptEntries, AttemptLists}
 
 -- ** The words

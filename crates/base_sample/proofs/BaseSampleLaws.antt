@@ -10,7 +10,7 @@ use lib.Arith.{le-zero}
 use lib.Dec.{leb}
 use borrow.Author.Tests.{leb-true, leb-false, le-leb}
 use Rattle.arithmetic.specs.Words.{bit}
-use Rattle.checks.proofs.Laws.{all-at}
+use Rattle.checks.proofs.AllBelow.{all-at}
 use Rattle.base_sample.specs.BaseSample.{threshold, neverFalls, atOrBelow, baseSample, AtJust, BaseSampleExactly, BaseSampleRises, ThresholdByItsWords, Rising}
 
 -- ** Thresholds that never fall

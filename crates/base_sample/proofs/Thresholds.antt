@@ -11,7 +11,7 @@ use borrow.Author.Tests.{ltb-true, ltb-false, le-leb, lt-leb}
 use Rattle.arithmetic.specs.Words.{bit}
 use Rattle.arithmetic.proofs.Bits.{bit-injective}
 use Rattle.arithmetic.proofs.Order.{digits-order}
-use Rattle.checks.proofs.Laws.{all-at}
+use Rattle.checks.proofs.AllBelow.{all-at}
 use Rattle.base_sample.specs.BaseSample.{threshold, wordsSmall, atOrBelow}
 
 -- ** Words and their order

@@ -6,7 +6,8 @@ use Prim.Native.Nat.{ℕ, _≤_, _<_}
 use lib.Dec.{leb, ltb}
 use lib.ListN.{length, getD}
 use borrow.Author.Tests.{leb-true, ltb-true}
-use Rattle.checks.proofs.Laws.{both-true, all-at}
+use Rattle.checks.proofs.JoinedTests.{both-true}
+use Rattle.checks.proofs.AllBelow.{all-at}
 use Rattle.challenge.specs.Challenge.{lengthFits, positionsBelow, ascends, arePositions, isChallenge}
 
 pub record Challenge (n : ℕ) (challenge : List ℕ) : Type 0 where

@@ -14,7 +14,7 @@ use Rattle.signed.specs.Vectors.{allWithin, squareSum}
 use Rattle.signed.proofs.Signs.{abs-add}
 use Rattle.signed.proofs.Vectors.{squares-within, squares-append}
 use Rattle.read_list.specs.Entries.{entry}
-use Rattle.read_list.proofs.Laws.{sets-sets, sets-whole}
+use Rattle.read_list.proofs.Written.{sets-sets, sets-whole}
 use Rattle.challenge.proofs.ProductSizes.{term-within, product-within, length-outputsFrom, length-product, length-outputEntries, length-outputEntriesFrom, length-productEntries, half-bound}
 use Rattle.challenge.specs.Product.{keyBound, outputBound, indexOf, termAt, outputAt, outputsFrom, product, Factors, outputEntries, outputEntriesFrom, productEntries}
 

@@ -1,2 +1,5 @@
-pub mod Laws
+pub mod JoinedTests
+pub mod Degrees
+pub mod AllBelow
+pub mod Unless
 pub mod RefusalTable

@@ -10,7 +10,8 @@ use lib.Pow.{pow-mono}
 use borrow.Author.Tests.{eqb-true, eqb-false, leb-true, leb-false, ltb-true, ltb-false, le-ltb}
 use Rattle.checks.specs.Checks.{among, isDegree, allBelow, unless}
 use Rattle.checks.specs.RefusalTable.{Refuses, refused, passed, Somewhere, PowerOfTwo}
-use Rattle.checks.proofs.Laws.{all-at, degree-range}
+use Rattle.checks.proofs.AllBelow.{all-at}
+use Rattle.checks.proofs.Degrees.{degree-range}
 
 -- a test fails exactly where a condition applies
 pub record FailsWhere (test : Bool) (applies : Type 0) : Type 0 where

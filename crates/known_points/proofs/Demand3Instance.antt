@@ -12,7 +12,7 @@ use borrow.Author.Tests.{ltb-true, eq-eqb}
 use Rattle.read_list.specs.Entries.{kindOf, placeOf, placesUp, placesDown, filledPart}
 use Rattle.read_list.specs.Agreement.{Agree}
 use Rattle.checks.specs.Checks.{among, isDegree, allBelow, unless}
-use Rattle.checks.proofs.Laws.{both-true}
+use Rattle.checks.proofs.JoinedTests.{both-true}
 use Rattle.signed.specs.Vectors.{allWithin, squareSum, innerProduct}
 use Rattle.exponential.specs.Exponential.{factorial, entriesFrom as polynomialFrom, polynomial, sameWords, isPolynomial, reciprocal, scaled, evaluate, squared, squarings, expScaled, expWith}
 use Rattle.base_sample.specs.BaseSample.{wordsSmall, neverFalls, isCdt, atOrBelow, baseSample}

@@ -9,7 +9,7 @@ use lib.IntN.{pos}
 use lib.ListN.{getD}
 use Rattle.read_list.specs.Entries.{entry, placesUp}
 use Rattle.read_list.specs.Agreement.{Lent, SameAt, Agree}
-use Rattle.read_list.proofs.Laws.{kind-of-entry, place-of-entry}
+use Rattle.read_list.proofs.Entries.{kind-of-entry, place-of-entry}
 
 -- ** The entries of a run
 

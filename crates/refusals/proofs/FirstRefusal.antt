@@ -13,7 +13,8 @@ use borrow.Author.Tests.{eqb-true, leb-false}
 use Rattle.signed.specs.Vectors.{allWithin}
 use Rattle.signed.proofs.Vectors.{within-at}
 use Rattle.checks.specs.Checks.{allBelow}
-use Rattle.checks.proofs.Laws.{both-true, all-at}
+use Rattle.checks.proofs.JoinedTests.{both-true}
+use Rattle.checks.proofs.AllBelow.{all-at}
 use Rattle.checks.proofs.RefusalTable.{FailsWhere, refuses, fails-unequal, fails-above, fails-from, fails-either, fails-somewhere, fails-no-degree}
 use Rattle.exponential.specs.Exponential.{polynomialEntry, entriesFrom, polynomial, isPolynomial}
 use Rattle.exponential.proofs.Table.{table-at, polynomial-of, is-polynomial}

@@ -9,7 +9,8 @@ use lib.Seq.{sets}
 use lib.IntN.{ℤ, pos}
 use Rattle.arithmetic.specs.Words.{bit}
 use Rattle.read_list.specs.Entries.{entry, placesUp}
-use Rattle.read_list.proofs.Laws.{length-placesUp, sets-sets}
+use Rattle.read_list.proofs.Runs.{length-placesUp}
+use Rattle.read_list.proofs.Written.{sets-sets}
 use Rattle.challenge.specs.Product.{productEntries}
 use Rattle.challenge.proofs.ProductSizes.{length-productEntries}
 use Rattle.acceptance.specs.Acceptance.{acceptanceEntries}

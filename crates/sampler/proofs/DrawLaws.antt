@@ -13,7 +13,7 @@ use lib.Seq.{sets, length-sets, take-all, take-set-le, take-suc-set}
 use borrow.Author.Tests.{ltb-false, eq-eqb, ne-eqb}
 use Rattle.arithmetic.specs.Words.{bit}
 use Rattle.read_list.specs.Entries.{entry}
-use Rattle.read_list.proofs.Laws.{sets-sets}
+use Rattle.read_list.proofs.Written.{sets-sets}
 use Rattle.attempt.specs.Attempt.{sampleAt, attemptEntries}
 use Rattle.sampler.specs.declared.Counts.{Counts}
 use Rattle.sampler.proofs.DrawTells.{length-entries}

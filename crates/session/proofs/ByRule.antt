@@ -6,7 +6,7 @@ use mathlib.Core.Logic.{_↔_}
 use Prim.Native.Nat.{ℕ, _*_}
 use lib.IntN.{ℤ}
 use lib.ListN.{length, getD}
-use Rattle.read_list.proofs.Laws.{take-written}
+use Rattle.read_list.proofs.FilledPart.{take-written}
 use Rattle.exponential.specs.Exponential.{polynomial, expWith, divisor, exp}
 use Rattle.attempt.specs.Attempt.{bitAt}
 use Rattle.sampler.specs.Draw.{drawBits, drawEntries, sampledBy, Stops}

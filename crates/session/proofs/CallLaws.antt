@@ -7,7 +7,7 @@ use native.Mathlib.Omega.{arith}
 use lib.Dec.{eqb}
 use lib.IntN.{ℤ}
 use borrow.Author.Tests.{eqb-true, eq-eqb, ne-eqb}
-use Rattle.read_list.proofs.Laws.{rest-unwritten}
+use Rattle.read_list.proofs.FilledPart.{rest-unwritten}
 use Rattle.sampler.specs.Draw.{accepted, drawY, drawEntries, sampledBy}
 use Rattle.response.specs.Response.{respondEntries, respondedBy}
 use Rattle.response.proofs.RespondTells.{length-respondEntries}

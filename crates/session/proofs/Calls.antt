@@ -6,7 +6,7 @@ use native.Mathlib.Nat.{le-trans}
 use native.Mathlib.Omega.{arith}
 use lib.ListN.{length}
 use borrow.Author.Tests.{eq-eqb, ne-eqb}
-use Rattle.read_list.proofs.Laws.{filled-written}
+use Rattle.read_list.proofs.FilledPart.{filled-written}
 use Rattle.sampler.specs.Draw.{drawListLength, drawEntries, sampledBy}
 use Rattle.sampler.proofs.DrawTells.{draw-entries-at-most}
 use Rattle.response.specs.Response.{respondEntries, respondedBy}

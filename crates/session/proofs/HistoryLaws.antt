@@ -10,7 +10,7 @@ use lib.Seq.{length-sets}
 use native.Mathlib.Omega.{arith}
 use borrow.Author.Tests.{eq-eqb, ne-eqb}
 use Rattle.read_list.specs.Entries.{filledPart}
-use Rattle.read_list.proofs.Laws.{filled-up-to}
+use Rattle.read_list.proofs.FilledPart.{filled-up-to}
 use Rattle.sampler.specs.Draw.{sampledBy}
 use Rattle.response.specs.Response.{respondedBy}
 use Rattle.session.specs.declared.Session.{Session}

@@ -9,7 +9,7 @@ use native.Mathlib.Omega.{arith}
 use lib.ListN.{length}
 use borrow.Author.Tests.{eq-eqb, ne-eqb}
 use Rattle.checks.specs.Checks.{isDegree}
-use Rattle.checks.proofs.Laws.{degree-range}
+use Rattle.checks.proofs.Degrees.{degree-range}
 use Rattle.sampler.specs.Draw.{drawEntries}
 use Rattle.sampler.proofs.DrawTells.{length-drawEntries, draw-tells}
 use Rattle.challenge.specs.Challenge.{positionsBelow}

@@ -3,7 +3,7 @@ use mathlib.Core.Path.{_≡_, sym, ap, _∙_, subst}
 use mathlib.Core.Bool.{true}
 use Prim.Native.Nat.{_*_, _^_, _≤_}
 use native.Mathlib.Omega.{arith}
-use Rattle.checks.proofs.Laws.{degree-range}
+use Rattle.checks.proofs.Degrees.{degree-range}
 use Rattle.read_list.specs.Agreement.{Agree}
 use Rattle.sampler.specs.Draw.{drawY, drawEntries, sampledBy}
 use Rattle.sampler.proofs.Agreement.{same-bits, same-y}

@@ -5,7 +5,7 @@ use Prim.Native.Nat.{ℕ, _+_, _%_, _^_}
 use lib.ListN.{set}
 use lib.Seq.{sets}
 use Rattle.read_list.specs.Entries.{entry, placesUp}
-use Rattle.read_list.proofs.Laws.{placesUp-more}
+use Rattle.read_list.proofs.Runs.{placesUp-more}
 use borrow.Author.Needs.{needs}
 use Rattle.attempt.proofs.attempt_words.Statement.{statement}
 use Rattle.attempt.proofs.attempt_words.Tie as tie

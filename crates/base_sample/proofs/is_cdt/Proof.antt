@@ -1,6 +1,6 @@
 -- `base_sample::is_cdt` meets its contract. Assumes nothing.
 use borrow.Author.Needs.{needs}
-use Rattle.checks.proofs.Laws.{holds, fails}
+use Rattle.checks.proofs.JoinedTests.{holds, fails}
 use Rattle.base_sample.specs.BaseSample.{isCdt}
 use Rattle.base_sample.proofs.is_cdt.Statement.{statement}
 use Rattle.base_sample.proofs.is_cdt.Tie as tie

@@ -10,7 +10,7 @@ use lib.Dec.{leb, ltb}
 use lib.ListN.{getD}
 use Rattle.arithmetic.specs.Words.{bit}
 use Rattle.checks.specs.Checks.{allBelow}
-use Rattle.checks.proofs.Laws.{all-none, all-more, all-broken, all-done}
+use Rattle.checks.proofs.AllBelow.{all-none, all-more, all-broken, all-done}
 use Rattle.base_sample.specs.BaseSample.{threshold, neverFalls}
 use Rattle.base_sample.proofs.Thresholds.{word-small, is-below, not-below}
 use Rattle.base_sample.proofs.never_falls.Statement.{statement}

@@ -9,7 +9,7 @@ use lib.ListN.{length, set, getD, length-set}
 use lib.Seq.{sets}
 use Rattle.arithmetic.specs.Words.{bit}
 use Rattle.read_list.specs.Entries.{entry, placesUp}
-use Rattle.read_list.proofs.Laws.{placesUp-more}
+use Rattle.read_list.proofs.Runs.{placesUp-more}
 use Rattle.base_sample.specs.BaseSample.{threshold, atOrBelow, baseSample}
 use Rattle.arithmetic.proofs.Bits.{bit-le}
 use Rattle.base_sample.proofs.Thresholds.{word-small, one-more, at-or-below-next}

@@ -7,7 +7,7 @@ use lib.Dec.{ltb}
 use lib.ListN.{getD}
 use borrow.Author.Tests.{le-ltb, lt-ltb}
 use Rattle.checks.specs.Checks.{allBelow}
-use Rattle.checks.proofs.Laws.{all-none, all-more, all-broken, all-done}
+use Rattle.checks.proofs.AllBelow.{all-none, all-more, all-broken, all-done}
 use Rattle.base_sample.specs.BaseSample.{wordsSmall}
 use Rattle.base_sample.proofs.words_small.Statement.{statement}
 use Rattle.base_sample.proofs.words_small.Tie as tie

@@ -6,7 +6,7 @@ use mathlib.Core.Bool.{true, not, _||_}
 use Prim.Native.Nat.{ℕ}
 use lib.Dec.{leb, ltb}
 use lib.ListN.{length}
-use Rattle.checks.proofs.Laws.{two-fail, below-not-above}
+use Rattle.checks.proofs.JoinedTests.{two-fail, below-not-above}
 use Rattle.challenge.specs.Challenge.{lengthFits, arePositions}
 use Rattle.challenge.proofs.are_positions.Statement.{statement}
 use Rattle.challenge.proofs.are_positions.Tie as tie

@@ -8,7 +8,7 @@ use lib.Dec.{ltb}
 use lib.ListN.{length, getD}
 use borrow.Author.Tests.{le-ltb, lt-ltb}
 use Rattle.checks.specs.Checks.{allBelow}
-use Rattle.checks.proofs.Laws.{all-none, all-more, all-broken, all-done}
+use Rattle.checks.proofs.AllBelow.{all-none, all-more, all-broken, all-done}
 use Rattle.challenge.specs.Challenge.{ascends}
 use Rattle.challenge.proofs.ascending.Statement.{statement}
 use Rattle.challenge.proofs.ascending.Tie as tie

@@ -1,5 +1,5 @@
 -- `checks::is_degree` meets its contract. Assumes nothing.
-use Rattle.checks.proofs.Laws.{is-degree, not-degree}
+use Rattle.checks.proofs.Degrees.{is-degree, not-degree}
 use Rattle.checks.proofs.is_degree.Statement.{statement}
 use Rattle.checks.proofs.is_degree.Tie as tie
 

@@ -9,7 +9,7 @@ use native.Mathlib.Omega.{arith}
 use lib.ListN.{length, length-set}
 use lib.Seq.{sets}
 use Rattle.read_list.specs.Entries.{placesDown}
-use Rattle.read_list.proofs.Laws.{placesDown-step, placesDown-end}
+use Rattle.read_list.proofs.Runs.{placesDown-step, placesDown-end}
 use Rattle.exponential.proofs.Steps.{table-length, Evaluating, evaluating-starts, evaluating-asks, evaluating-goes-on, evaluating-ends}
 use Rattle.exponential.proofs.evaluate_listed.Statement.{statement}
 use Rattle.exponential.proofs.evaluate_listed.Tie as tie

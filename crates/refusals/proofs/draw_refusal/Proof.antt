@@ -8,7 +8,9 @@ use lib.Dec.{leb, ltb, eqb}
 use lib.ListN.{length}
 use borrow.Author.Tests.{not-true, not-false, eqb-true, leb-true, lt-leb, le-leb}
 use Rattle.checks.specs.Checks.{isDegree, unless}
-use Rattle.checks.proofs.Laws.{both-true, two-fail, three-fail, below-not-above, holds, fails, degree-range, refused, not-refused}
+use Rattle.checks.proofs.JoinedTests.{both-true, two-fail, three-fail, below-not-above, holds, fails}
+use Rattle.checks.proofs.Degrees.{degree-range}
+use Rattle.checks.proofs.Unless.{refused, not-refused}
 use Rattle.exponential.specs.Exponential.{isPolynomial}
 use Rattle.base_sample.specs.BaseSample.{isCdt}
 use Rattle.sampler.specs.Draw.{drawListLength}

@@ -9,7 +9,9 @@ use native.Mathlib.Omega.{arith}
 use lib.Dec.{leb, eqb}
 use lib.ListN.{length}
 use Rattle.checks.specs.Checks.{isDegree, unless}
-use Rattle.checks.proofs.Laws.{four-fail, holds, fails, degree-range, refused, not-refused}
+use Rattle.checks.proofs.JoinedTests.{four-fail, holds, fails}
+use Rattle.checks.proofs.Degrees.{degree-range}
+use Rattle.checks.proofs.Unless.{refused, not-refused}
 use Rattle.exponential.specs.Exponential.{isPolynomial}
 use Rattle.challenge.specs.Challenge.{isChallenge}
 use Rattle.challenge.proofs.Positions.{challenge-of}

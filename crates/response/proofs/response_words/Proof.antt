@@ -6,7 +6,7 @@ use Prim.Native.Nat.{ℕ, _+_}
 use lib.ListN.{set}
 use lib.Seq.{sets}
 use Rattle.read_list.specs.Entries.{entry, placesUp}
-use Rattle.read_list.proofs.Laws.{placesUp-more}
+use Rattle.read_list.proofs.Runs.{placesUp-more}
 use Rattle.response.proofs.response_words.Statement.{statement}
 use Rattle.response.proofs.response_words.Tie as tie
 

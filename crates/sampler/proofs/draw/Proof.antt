@@ -6,7 +6,7 @@ use native.Mathlib.Omega.{arith}
 use lib.Dec.{ltb}
 use lib.ListN.{length}
 use borrow.Author.Tests.{ltb-true}
-use Rattle.checks.proofs.Laws.{both-true}
+use Rattle.checks.proofs.JoinedTests.{both-true}
 use Rattle.exponential.specs.Exponential.{expScaled}
 use Rattle.attempt.specs.Attempt.{bitAt, sampleAt}
 use Rattle.sampler.specs.Draw.{drawBits}

@@ -5,7 +5,7 @@ use Prim.Native.Nat.{ℕ, _*_}
 use native.Mathlib.Omega.{arith}
 use lib.Dec.{lit<}
 use lib.ListN.{length}
-use Rattle.checks.proofs.Laws.{degree-range}
+use Rattle.checks.proofs.Degrees.{degree-range}
 use Rattle.exponential.specs.Exponential.{expScaled}
 use Rattle.exponential.proofs.Table.{by-215}
 use Rattle.sampler.specs.Draw.{drawBits, Sampled, sampledBy}

@@ -4,7 +4,7 @@ use mathlib.Core.Path.{_≡_, sym, ap, _∙_}
 use Prim.Native.Nat.{ℕ}
 use lib.Dec.{lit<}
 use lib.ListN.{length}
-use Rattle.checks.proofs.Laws.{degree-range}
+use Rattle.checks.proofs.Degrees.{degree-range}
 use Rattle.exponential.specs.Exponential.{expScaled}
 use Rattle.exponential.proofs.Table.{by-215}
 use Rattle.challenge.specs.Product.{product}
