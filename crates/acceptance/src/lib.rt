@@ -13,6 +13,13 @@ const SQUARES_LIMIT: u64 = 46225;
 // The most that Z may be.
 const NORM_LIMIT: u64 = 165688384;
 
+// Where the entries of the second exponential and of the bit begin, counted from the first exponential's, and how many are listed.
+const SECOND_AT: usize = exponential::POLYNOMIAL_WORDS;
+
+const BIT_AT: usize = SECOND_AT + exponential::POLYNOMIAL_WORDS;
+
+pub const ENTRIES: usize = BIT_AT + 1;
+
 const TWO_63: u64 = 2 * arithmetic::TWO_62;
 
 // What the bit of a response hangs on: the sums A, Z and I, and two words.
@@ -54,8 +61,8 @@ pub fn judged(table: &[u64], reciprocal: u64, m: Measures, list: &mut [u32], at:
     let first_exponent = SQUARES_LIMIT - arithmetic::smaller(m.squares, SQUARES_LIMIT);
     let second_exponent = arithmetic::smaller(2 * signed::size_of(m.inner), exponential::LIMIT);
     let e1 = exponential::exp_listed(table, reciprocal, first_exponent, list, at);
-    let e2 = exponential::exp_listed(table, reciprocal, second_exponent, list, at + 21);
+    let e2 = exponential::exp_listed(table, reciprocal, second_exponent, list, at + SECOND_AT);
     let accepted = all_pass(m, e1, e2);
-    read_list::note(read_list::BIT, accepted as usize, list, at + 42);
+    read_list::note(read_list::BIT, accepted as usize, list, at + BIT_AT);
     accepted
 }

@@ -4,7 +4,7 @@ use mathlib.Core.Bool.{Bool, true, false}
 use Prim.Native.Nat.{_≤_}
 use native.Mathlib.Omega.{arith}
 use lib.Dec.{eqb}
-use Rattle.arithmetic.specs.Words.{ValueByItsWords, bit}
+use Rattle.arithmetic.specs.Words.{ValueByItsWords, Value62ByItsWords, bit}
 
 pub bit-le : (t : Bool) → bit t ≤ 1
 bit-le true = omega arith
@@ -22,3 +22,6 @@ bit-injective false false e = refl
 
 pub value-by-its-words : ValueByItsWords
 value-by-its-words w = refl
+
+pub value62-by-its-words : Value62ByItsWords
+value62-by-its-words w = refl

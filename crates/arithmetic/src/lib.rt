@@ -1,15 +1,22 @@
-// Words of 64 bits: fields cut out by masks and shifts, the product of two words, and the order of numbers of two words.
+// Words of 64 bits: fields cut out by masks and shifts, the product of two words, and the order of numbers of two digits, of 64 or of 62
+// bits.
 // No function branches on its data.
 ghost use mathlib.Core.Path.{_≡_};
-ghost use Prim.Native.Nat.{_-_, _*_, _/_, _%_, _^_, _≤_, _<_, min};
+ghost use Prim.Native.Nat.{_+_, _-_, _*_, _/_, _%_, _^_, _≤_, _<_, min};
 ghost use lib.Dec.{ltb};
-ghost use Rattle.arithmetic.specs.Words.{low62Of, value, bit};
+ghost use Rattle.arithmetic.specs.Words.{low62Of, value, value62, bit};
 
 // 2^62: 1 in units of 2^-62, and above all that 62 bits can hold.
 pub const TWO_62: u64 = 0x4000_0000_0000_0000;
 
 // The number high * 2^64 + low.
 pub struct Wide {
+    pub high: u64,
+    pub low: u64,
+}
+
+// The number high * 2^62 + low, both below 2^62: a draw, or a threshold.
+pub struct Wide62 {
     pub high: u64,
     pub low: u64,
 }
@@ -120,11 +127,28 @@ pub fn smaller(a: u64, b: u64) -> u64
     a * first + b * (1 - first)
 }
 
-// 1 where the number a is below the number b, else 0. The low words decide whether equal high words are enough: no jump.
+// 1 where the number a is below the number b, else 0.
 pub fn less(a: Wide, b: Wide) -> u64
     requires { ⌜ b .high < 2 ^ 64 - 1 ⌝ }
     ensures { λ r. ⌜ r ≡ bit (ltb (value a) (value b)) ⌝ }
 {
-    let borrow = (a.low < b.low) as u64;
-    (a.high < b.high + borrow) as u64
+    less_by_digits(a.high, a.low, b.high, b.low)
+}
+
+// The same of numbers of base 2^62.
+pub fn less62(a: Wide62, b: Wide62) -> u64
+    requires { ⌜ (a .low < 2 ^ 62) × (b .high < 2 ^ 62) × (b .low < 2 ^ 62) ⌝ }
+    ensures { λ r. ⌜ r ≡ bit (ltb (value62 a) (value62 b)) ⌝ }
+{
+    less_by_digits(a.high, a.low, b.high, b.low)
+}
+
+// 1 where one number of two digits is below another, else 0, in any base that the low digits are below. The low digits decide whether
+// equal high digits are enough: no jump.
+fn less_by_digits(high: u64, low: u64, other: u64, below: u64) -> u64
+    requires { ⌜ other < 2 ^ 64 - 1 ⌝ }
+    ensures { λ r. ⌜ r ≡ bit (ltb high (other + bit (ltb low below))) ⌝ }
+{
+    let borrow = (low < below) as u64;
+    (high < other + borrow) as u64
 }

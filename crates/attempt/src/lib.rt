@@ -9,14 +9,24 @@ ghost use Rattle.arithmetic.specs.Words.{low62Of};
 ghost use Rattle.read_list.specs.Entries.{placesUp};
 ghost use Rattle.exponential.specs.Exponential.{attemptLimit, expScaled};
 ghost use Rattle.attempt.specs.Attempt.{size, exponent, sample, Tables, bitAt, sampleAt, attemptEntries};
-use arithmetic::Wide;
+use arithmetic::Wide62;
 
-// The entries that an attempt lists.
-pub const ENTRIES: usize = 46;
+// The words of an attempt.
+pub const WORDS: usize = 4;
+
+// Where its entries of the CDT table, of the polynomial table and of the samples accepted before begin, counted from the first of its
+// words, and how many it lists.
+const CDT_AT: usize = WORDS;
+
+const POLYNOMIAL_AT: usize = CDT_AT + base_sample::CDT_WORDS;
+
+const ACCEPTED_AT: usize = POLYNOMIAL_AT + exponential::POLYNOMIAL_WORDS;
+
+pub const ENTRIES: usize = ACCEPTED_AT + 1;
 
 // The words of an attempt: the draw that the first two give, and the other two.
 pub struct AttemptWords {
-    pub draw: Wide,
+    pub draw: Wide62,
     pub third: u64,
     pub fourth: u64,
 }
@@ -30,7 +40,7 @@ fn attempt_words(words: &[u64], place: usize, list: &mut [u32], at: usize) -> At
     let second = read_list::listed_word(words, read_list::WORD, place + 1, list, at + 1);
     let third = read_list::listed_word(words, read_list::WORD, place + 2, list, at + 2);
     let fourth = read_list::listed_word(words, read_list::WORD, place + 3, list, at + 3);
-    let draw = Wide {
+    let draw = Wide62 {
         high: arithmetic::low62(first),
         low: arithmetic::low62(second),
     };
@@ -82,11 +92,11 @@ pub fn attempt(
     ensures { λ _. ⌜ now (y .exit) ≡ set (now (y .entry)) k (sampleAt (now (cdt .entry)) (now (words .entry)) t) ⌝ }
     ensures { λ _. ⌜ now (list .exit) ≡ sets (now (list .entry)) at (attemptEntries t k) ⌝ }
 {
-    let w = attempt_words(words, 4 * t, list, at);
+    let w = attempt_words(words, WORDS * t, list, at);
     let third = w.third;
-    let x = base_sample::scan(cdt, w.draw, list, at + 4);
+    let x = base_sample::scan(cdt, w.draw, list, at + CDT_AT);
     let n = exponent_of(x, third);
-    let e = exponential::exp_listed(table, reciprocal, n, list, at + 24);
-    read_list::note(read_list::ACCEPTED_BEFORE, k, list, at + 45);
+    let e = exponential::exp_listed(table, reciprocal, n, list, at + POLYNOMIAL_AT);
+    read_list::note(read_list::ACCEPTED_BEFORE, k, list, at + ACCEPTED_AT);
     judged(e, x, third, w.fourth, y, k)
 }

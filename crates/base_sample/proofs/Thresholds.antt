@@ -1,5 +1,5 @@
 -- Thresholds: their words, their order, and the number of them at or below a draw. Assumes nothing.
-use mathlib.Core.Path.{_≡_, refl, sym, _∙_}
+use mathlib.Core.Path.{_≡_, refl}
 use mathlib.Core.Bool.{Bool, true, false}
 use mathlib.Core.List.{List}
 use Prim.Native.Nat.{ℕ, _+_, _-_, _*_, _^_, _<_}
@@ -10,7 +10,6 @@ use lib.ListN.{getD}
 use borrow.Author.Tests.{ltb-true, ltb-false, le-leb, lt-leb}
 use Rattle.arithmetic.specs.Words.{bit}
 use Rattle.arithmetic.proofs.Bits.{bit-injective}
-use Rattle.arithmetic.proofs.Order.{digits-order}
 use Rattle.checks.proofs.AllBelow.{all-at}
 use Rattle.base_sample.specs.BaseSample.{threshold, wordsSmall, atOrBelow}
 
@@ -19,10 +18,6 @@ use Rattle.base_sample.specs.BaseSample.{threshold, wordsSmall, atOrBelo
 pub word-small : (cdt : List ℕ) (i : ℕ) → i < 20 → wordsSmall cdt ≡ true → getD cdt i 0 < 2 ^ 62
 unfolding wordsSmall
 word-small cdt i h e = ltb-true (getD cdt i 0) (2 ^ 62) (all-at (λ (j : ℕ). ltb (getD cdt j 0) (2 ^ 62)) i 20 h e)
-
--- numbers with low digits below 2 ^ 62 have one order in both bases
-pub base-62 : (h l h′ l′ : ℕ) → l < 2 ^ 62 → l′ < 2 ^ 62 → ltb (h * 2 ^ 64 + l) (h′ * 2 ^ 64 + l′) ≡ ltb (h * 2 ^ 62 + l) (h′ * 2 ^ 62 + l′)
-base-62 h l h′ l′ s s′ = sym (digits-order (2 ^ 64) h l h′ l′ (omega arith) (omega arith)) ∙ digits-order (2 ^ 62) h l h′ l′ s s′
 
 -- a threshold that a draw is not below is at or below it
 pub not-below : (m n : ℕ) → (bit (ltb n m) ≡ 1 → ⊥) → leb m n ≡ true

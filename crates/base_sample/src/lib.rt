@@ -2,13 +2,12 @@
 ghost use mathlib.Core.Path.{_≡_};
 ghost use mathlib.Core.Bool.{true};
 ghost use Prim.Native.Nat.{_+_, _*_, _^_, _≤_, _<_};
-ghost use lib.Dec.{ltb};
 ghost use lib.ListN.{length, getD};
 ghost use lib.Seq.{sets};
-ghost use Rattle.arithmetic.specs.Words.{bit};
+ghost use Rattle.arithmetic.specs.Words.{value62};
 ghost use Rattle.read_list.specs.Entries.{placesUp};
 ghost use Rattle.base_sample.specs.BaseSample.{wordsSmall, neverFalls, isCdt, baseSample};
-use arithmetic::Wide;
+use arithmetic::Wide62;
 
 // The words of a CDT table.
 pub const CDT_WORDS: usize = 20;
@@ -53,7 +52,7 @@ fn never_falls(cdt: &[u64]) -> bool
     while i < LAST {
         let here = threshold_at(cdt, i);
         let next = threshold_at(cdt, i + 1);
-        if below(next, here) == 1 {
+        if arithmetic::less62(next, here) == 1 {
             return false;
         }
         i += 1;
@@ -62,28 +61,20 @@ fn never_falls(cdt: &[u64]) -> bool
 }
 
 // Threshold i of a CDT table.
-fn threshold_at(cdt: &[u64], i: usize) -> Wide
+fn threshold_at(cdt: &[u64], i: usize) -> Wide62
     requires { ⌜ (length (now cdt) ≡ 20) × (i < 10) ⌝ }
     ensures { λ r. ⌜ (r .high ≡ getD (now (cdt .entry)) (2 * i) 0) × (r .low ≡ getD (now (cdt .entry)) (2 * i + 1) 0) ⌝ }
 {
-    Wide {
+    Wide62 {
         high: cdt[2 * i],
         low: cdt[2 * i + 1],
     }
 }
 
-// 1 where the number a is below b, else 0: numbers of base 2^62.
-fn below(a: Wide, b: Wide) -> u64
-    requires { ⌜ (a .low < 2 ^ 62) × (b .high < 2 ^ 62) × (b .low < 2 ^ 62) ⌝ }
-    ensures { λ r. ⌜ r ≡ bit (ltb (a .high * 2 ^ 62 + a .low) (b .high * 2 ^ 62 + b .low)) ⌝ }
-{
-    arithmetic::less(a, b)
-}
-
 // The base sample of a draw. All twenty words are read, in order, and listed from the index `at` of a list on.
-pub fn scan(cdt: &[u64], draw: Wide, list: &mut [u32], at: usize) -> u64
+pub fn scan(cdt: &[u64], draw: Wide62, list: &mut [u32], at: usize) -> u64
     requires { ⌜ (length (now cdt) ≡ 20) × (wordsSmall (now cdt) ≡ true) × (draw .low < 2 ^ 62) × (at + 20 ≤ length (now list)) ⌝ }
-    ensures { λ r. ⌜ (r ≡ baseSample (now (cdt .entry)) (draw .high * 2 ^ 62 + draw .low)) × (r ≤ 10) × (now (list .exit) ≡ sets (now (list .entry)) at (placesUp 3 0 20)) ⌝ }
+    ensures { λ r. ⌜ (r ≡ baseSample (now (cdt .entry)) (value62 draw)) × (r ≤ 10) × (now (list .exit) ≡ sets (now (list .entry)) at (placesUp 3 0 20)) ⌝ }
 {
     let mut x: u64 = 0;
     let mut i: usize = 0;
@@ -92,7 +83,7 @@ pub fn scan(cdt: &[u64], draw: Wide, list: &mut [u32], at: usize) -> u64
         let here = at + place;
         let high = read_list::listed_word(cdt, read_list::CDT, place, list, here);
         let low = read_list::listed_word(cdt, read_list::CDT, place + 1, list, here + 1);
-        x = x + 1 - below(draw, Wide { high, low });
+        x = x + 1 - arithmetic::less62(draw, Wide62 { high, low });
         i += 1;
     }
     x

@@ -1,5 +1,5 @@
 pub mod JoinedTests
 pub mod Degrees
 pub mod AllBelow
-pub mod Unless
+pub mod Lines
 pub mod RefusalTable

@@ -8,8 +8,8 @@ use native.Mathlib.Omega.{arith}
 use lib.Dec.{leb, ltb, eqb}
 use lib.Pow.{pow-mono}
 use borrow.Author.Tests.{eqb-true, eqb-false, leb-true, leb-false, ltb-true, ltb-false, le-ltb}
-use Rattle.checks.specs.Checks.{among, isDegree, allBelow, unless}
-use Rattle.checks.specs.RefusalTable.{Refuses, refused, passed, Somewhere, PowerOfTwo}
+use Rattle.checks.specs.Checks.{among, isDegree, allBelow, Line, line, firstRefusal}
+use Rattle.checks.specs.RefusalTable.{Refuses, refused, passed, Serves, Somewhere, PowerOfTwo}
 use Rattle.checks.proofs.AllBelow.{all-at}
 use Rattle.checks.proofs.Degrees.{degree-range}
 
@@ -18,13 +18,17 @@ pub record FailsWhere (test : Bool) (applies : Type 0) : Type 0 where
   pub fails : test ≡ false → applies
   pub holds : test ≡ true → applies → ⊥
 
--- ** One line of a table
+-- ** A table, line by line
 
-pub refuses : {test : Bool} {applies : Type 0} {later : ℕ → Type 0} (number value : ℕ) → FailsWhere test applies → (test ≡ true → later value)
-    → Refuses number applies later (unless test number value)
-unfolding unless
-refuses {test = true} number value f rest = passed (f .holds refl) (rest refl)
-refuses {test = false} number value f rest = refused (f .fails refl) refl
+pub refuses : {test : Bool} {applies : Type 0} {later : ℕ → Type 0} (refusal : ℕ) (lines : List Line)
+    → FailsWhere test applies → (test ≡ true → later (firstRefusal lines)) → Refuses refusal applies later (firstRefusal (line refusal test ∷ lines))
+unfolding firstRefusal
+refuses {test = true} refusal lines f rest = passed (f .holds refl) (rest refl)
+refuses {test = false} refusal lines f rest = refused (f .fails refl) refl
+
+pub serves : Serves (firstRefusal [])
+unfolding firstRefusal
+serves = refl
 
 -- ** Tests
 

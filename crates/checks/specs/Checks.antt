@@ -1,5 +1,5 @@
 -- What calls test before they are served. Assumes nothing.
-use mathlib.Core.Bool.{Bool, true, false, _&&_, _||_}
+use mathlib.Core.Bool.{Bool, true, false, _&&_, _||_, cond}
 use mathlib.Core.List.{List, [], _∷_}
 use Prim.Native.Nat.{ℕ, zero, suc}
 use lib.Dec.{eqb}
@@ -22,7 +22,13 @@ unfoldable pub allBelow : (ℕ → Bool) → ℕ → Bool
 allBelow test zero = true
 allBelow test (suc n) = allBelow test n && test n
 
--- the refusal, where the test before it fails; else what the later tests give
-unfoldable pub unless : (test : Bool) (refusal later : ℕ) → ℕ
-unless true refusal later = later
-unless false refusal later = refusal
+-- ** Refusals
+
+-- a test that a call must pass, and the refusal where it fails
+pub data Line : Type 0 where
+  line : (refusal : ℕ) (test : Bool) → Line
+
+-- the refusal of the first line whose test fails, or 0
+unfoldable pub firstRefusal : (lines : List Line) → ℕ
+firstRefusal [] = 0
+firstRefusal (line refusal test ∷ lines) = cond test (firstRefusal lines) refusal

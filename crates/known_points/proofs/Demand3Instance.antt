@@ -11,7 +11,7 @@ use lib.ListN.{length, replicate, getD, List·getD-append}
 use borrow.Author.Tests.{ltb-true, eq-eqb}
 use Rattle.read_list.specs.Entries.{kindOf, placeOf, placesUp, placesDown, filledPart}
 use Rattle.read_list.specs.Agreement.{Agree}
-use Rattle.checks.specs.Checks.{among, isDegree, allBelow, unless}
+use Rattle.checks.specs.Checks.{among, isDegree, allBelow, firstRefusal}
 use Rattle.checks.proofs.JoinedTests.{both-true}
 use Rattle.signed.specs.Vectors.{allWithin, squareSum, innerProduct}
 use Rattle.exponential.specs.Exponential.{factorial, entriesFrom as polynomialFrom, polynomial, sameWords, isPolynomial, reciprocal, scaled, evaluate, squared, squarings, expScaled, expWith}
@@ -90,14 +90,14 @@ entries-of {s} {c} r = served-entries s c (r .served) ∙ ap renderEvent (r .eve
 module _ (unread filler : ℕ) where
   draw-served : Served (atFour false) (theDraw unread filler) (atFour true) oneToEight (drew 4 (replicate 8 true))
   unfolding drawing drawOver wordsOf oneToEight evenThresholds thresholdsFrom leftBy drawLeft drawServed refusalOfDraw drawRefusal bitsOfDraw eventOf
-      unless isDegree among allBelow isCdt wordsSmall neverFalls isPolynomial sameWords polynomial polynomialFrom factorial drawBits bitsFrom
+      firstRefusal isDegree among allBelow isCdt wordsSmall neverFalls isPolynomial sameWords polynomial polynomialFrom factorial drawBits bitsFrom
       bitAt accepts sampleAt sample baseSample atOrBelow expWith expScaled reciprocal scaled evaluate squared squarings sampledBy
       accepted drawY samplesFrom drawEntries entriesFrom attemptEntries placesUp placesDown
   draw-served = record { served = refl; next-is = refl; y-is = refl; event-is = refl }
 
   respond-served : Served (atFour true) (theRespond unread filler) (atFour false) (replicate 8 (pos 0)) (answered 4 true (0 ∷ 2 ∷ []))
   unfolding responding oneToEight leftBy respondLeft respondServed refusalOfRespond respondRefusal noiseRefusal bitOfRespond eventOf
-      unless isDegree among allBelow isPolynomial sameWords polynomial polynomialFrom factorial isChallenge arePositions positionsBelow ascends allWithin
+      firstRefusal isDegree among allBelow isPolynomial sameWords polynomial polynomialFrom factorial isChallenge arePositions positionsBelow ascends allWithin
       respondedBy responseBit responseZ responseOf measuresOf acceptsBy allPass coshPasses squareSum innerProduct product outputsFrom outputAt termAt
       expWith expScaled reciprocal scaled evaluate squared squarings
   respond-served = record { served = refl; next-is = refl; y-is = refl; event-is = refl }
@@ -138,7 +138,7 @@ agreeing-rounds zero = tt
 agreeing-rounds (suc count) = (draws-agree, rw (draw-served 0 0 .next-is) (responds-agree, rw (respond-served 0 0 .next-is) (agreeing-rounds count)))
 
 any-number : (count : ℕ) → AnyNumber count
-unfolding opened openRefusal unless isDegree among
+unfolding opened openRefusal firstRefusal isDegree among
 any-number count = record {
   linked = linked-rounds 0 0 count;
   linked′ = linked-rounds 7 9 count;
@@ -160,7 +160,7 @@ nonzero h = omega arith
 pub demand3-instance : Demand3Instance
 unfolding callsOver callsRejecting callsRefused refusedDraw drawRefused refusedRespond respondRefused rejecting drawing responding drawOver wordsOf oneToEight evenThresholds thresholdsFrom opened openRefusal leftBy drawLeft
     drawServed refusalOfDraw drawRefusal bitsOfDraw respondLeft respondServed refusalOfRespond respondRefusal noiseRefusal bitOfRespond Linked
-    NoneRefused AllAlike Agreeing history eventOf wordsBelow unless isDegree among allBelow isCdt wordsSmall neverFalls
+    NoneRefused AllAlike Agreeing history eventOf wordsBelow firstRefusal isDegree among allBelow isCdt wordsSmall neverFalls
     isPolynomial sameWords polynomial polynomialFrom factorial isChallenge arePositions positionsBelow ascends allWithin drawBits bitsFrom
     bitAt accepts sampleAt sample baseSample atOrBelow expWith expScaled reciprocal scaled evaluate squared squarings sampledBy
     accepted drawY samplesFrom drawEntries entriesFrom attemptEntries placesUp placesDown filledPart respondedBy responseBit

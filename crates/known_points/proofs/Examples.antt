@@ -1,7 +1,7 @@
 -- The numbers and examples of document 01, computed. Assumes nothing.
 use mathlib.Core.Path.{refl}
 use Rattle.read_list.specs.Entries.{placesUp, placesDown, filledPart}
-use Rattle.checks.specs.Checks.{among, isDegree, allBelow, unless}
+use Rattle.checks.specs.Checks.{among, isDegree, allBelow, firstRefusal}
 use Rattle.signed.specs.Vectors.{allWithin, squareSum, innerProduct}
 use Rattle.exponential.specs.Exponential.{factorial, entriesFrom as polynomialFrom, polynomial, sameWords, isPolynomial, expOrRefusal}
 use Rattle.base_sample.specs.BaseSample.{wordsSmall, neverFalls, isCdt}
@@ -16,7 +16,7 @@ use Rattle.refusals.specs.Refusals.{openRefusal, drawRefusal, noiseRefusal, res
 use Rattle.known_points.specs.Examples.{openings, thresholdsOf, Examples}
 
 pub examples : Examples
-unfolding polynomial polynomialFrom factorial expOrRefusal evenThresholds thresholdsFrom openRefusal drawRefusal respondRefusal noiseRefusal unless isDegree
+unfolding polynomial polynomialFrom factorial expOrRefusal evenThresholds thresholdsFrom openRefusal drawRefusal respondRefusal noiseRefusal firstRefusal isDegree
     among allBelow isCdt wordsSmall neverFalls isPolynomial sameWords isChallenge arePositions positionsBelow ascends allWithin drawEntries entriesFrom
     attemptEntries placesUp placesDown filledPart respondEntries productEntries outputEntriesFrom outputEntries acceptanceEntries
     squareSum innerProduct openings thresholdsOf

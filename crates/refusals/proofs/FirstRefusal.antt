@@ -15,12 +15,12 @@ use Rattle.signed.proofs.Vectors.{within-at}
 use Rattle.checks.specs.Checks.{allBelow}
 use Rattle.checks.proofs.JoinedTests.{both-true}
 use Rattle.checks.proofs.AllBelow.{all-at}
-use Rattle.checks.proofs.RefusalTable.{FailsWhere, refuses, fails-unequal, fails-above, fails-from, fails-either, fails-somewhere, fails-no-degree}
+use Rattle.checks.proofs.RefusalTable.{FailsWhere, refuses, serves, fails-unequal, fails-above, fails-from, fails-either, fails-somewhere, fails-no-degree}
 use Rattle.exponential.specs.Exponential.{polynomialEntry, entriesFrom, polynomial, isPolynomial}
 use Rattle.exponential.proofs.Table.{table-at, polynomial-of, is-polynomial}
 use Rattle.base_sample.specs.BaseSample.{threshold, wordsSmall, neverFalls, isCdt}
 use Rattle.challenge.specs.Challenge.{positionsBelow, ascends, arePositions, isChallenge}
-use Rattle.refusals.specs.Refusals.{openRefusal, drawRefusal, noiseRefusal, respondRefusal}
+use Rattle.refusals.specs.Refusals.{openRefusal, drawRefusal, respondRefusal}
 use Rattle.refusals.specs.FirstRefusal.{NoCdt, NoPolynomial, TooMany, NoPositions, Outside, OpeningRefuses, DrawRefuses, RespondRefuses}
 
 -- ** The tests of single lines
@@ -86,7 +86,7 @@ fails-no-challenge n challenge =
 
 pub opening-refuses : (n : ℕ) → OpeningRefuses n (openRefusal n)
 unfolding openRefusal
-opening-refuses n = refuses 1 0 (fails-no-degree n) (λ e. refl)
+opening-refuses n = refuses 1 [] (fails-no-degree n) (λ e. serves)
 
 pub draw-refuses : (n limit : ℕ) (cdt table : List ℕ) (words y list : ℕ) → DrawRefuses n limit cdt table words y list (drawRefusal n limit cdt table words y list)
 unfolding drawRefusal
@@ -97,14 +97,14 @@ draw-refuses n limit cdt table words y list =
     refuses 4 _ (fails-no-polynomial table (twenty-one p2)) (λ p4.
     refuses 5 _ (fails-either (fails-above (2 * n) limit) (fails-above limit (32 * n))) (λ p5.
     refuses 7 _ (fails-above (4 * limit) words) (λ p7.
-    refuses 8 _ (fails-above (46 * limit + 2) list) (λ p8. refl)))))))
+    refuses 8 _ (fails-above (46 * limit + 2) list) (λ p8. serves)))))))
   where
     twenty-one : (eqb (length cdt) 20 && (eqb (length table) 21 && eqb y (2 * n))) ≡ true → length table ≡ 21
     twenty-one e = eqb-true (length table) 21 (both-true (eqb (length table) 21) _ (both-true (eqb (length cdt) 20) _ e .1) .0)
 
 pub respond-refuses : (n : ℕ) (drawn : Bool) (challenge table : List ℕ) (words : ℕ) (key y : List ℤ) (z list : ℕ)
     → RespondRefuses n drawn challenge table words key y z list (respondRefusal n drawn challenge table words key y z list)
-unfolding respondRefusal noiseRefusal
+unfolding respondRefusal
 respond-refuses n drawn challenge table words key y z list =
     refuses 1 _ (fails-no-degree n) (λ p1.
     refuses 2 _
@@ -115,7 +115,7 @@ respond-refuses n drawn challenge table words key y z list =
     refuses 8 _ (fails-above (2 * n * length challenge + 47) list) (λ p8.
     refuses 9 _ fails-not-drawn (λ p9.
     refuses 10 _ (fails-outside 7 key) (λ p10.
-    refuses 11 _ (fails-outside 2815 y) (λ p11. refl)))))))))
+    refuses 11 _ (fails-outside 2815 y) (λ p11. serves)))))))))
   where
     fails-not-drawn : FailsWhere drawn (drawn ≡ false)
     fails-not-drawn = record { fails = λ e. e; holds = λ e not-drawn. false≢true (sym not-drawn ∙ e) }

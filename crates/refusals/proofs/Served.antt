@@ -1,9 +1,8 @@
 -- What is known of a call that is not refused. Assumes nothing.
-use mathlib.Core.Path.{_≡_}
+use mathlib.Core.Path.{_≡_, refl}
 use mathlib.Core.Bool.{Bool, true, _&&_}
 use mathlib.Core.List.{List}
 use Prim.Native.Nat.{ℕ, _*_, _≤_}
-use native.Mathlib.Omega.{arith}
 use lib.Dec.{leb, eqb}
 use lib.IntN.{ℤ}
 use lib.ListN.{length}
@@ -11,7 +10,7 @@ use borrow.Author.Tests.{eqb-true, leb-true}
 use Rattle.signed.specs.Vectors.{allWithin}
 use Rattle.checks.specs.Checks.{isDegree}
 use Rattle.checks.proofs.JoinedTests.{both-true}
-use Rattle.checks.proofs.Unless.{passed}
+use Rattle.checks.proofs.Lines.{numbered, testOf, passes}
 use Rattle.exponential.specs.Exponential.{polynomial, isPolynomial}
 use Rattle.exponential.proofs.Table.{polynomial-of}
 use Rattle.base_sample.specs.BaseSample.{wordsSmall, neverFalls, isCdt}
@@ -20,7 +19,7 @@ use Rattle.challenge.proofs.Positions.{Challenge, challenge-of}
 use Rattle.challenge.specs.Product.{keyBound}
 use Rattle.sampler.specs.Draw.{drawListLength}
 use Rattle.response.specs.Response.{noiseBound, respondListLength}
-use Rattle.refusals.specs.Refusals.{drawRefusal, noiseRefusal, respondRefusal}
+use Rattle.refusals.specs.Refusals.{drawTests, drawRefusal, respondTests, respondRefusal}
 
 -- a draw
 pub record DrawServed (n limit : ℕ) (cdt table : List ℕ) (words y list : ℕ) : Type 0 where
@@ -34,25 +33,19 @@ pub record DrawServed (n limit : ℕ) (cdt table : List ℕ) (words y list : ℕ
   pub list-enough : drawListLength limit ≤ list
 
 pub draw-served : (n limit : ℕ) (cdt table : List ℕ) (words y list : ℕ) → drawRefusal n limit cdt table words y list ≡ 0 → DrawServed n limit cdt table words y list
-unfolding drawRefusal isCdt
+unfolding drawRefusal isCdt testOf numbered
 draw-served n limit cdt table words y list h =
-    let p1 = passed (isDegree n) 1 _ (omega arith) h in
-    let p2 = passed (eqb (length cdt) 20 && (eqb (length table) 21 && eqb y (2 * n))) 2 _ (omega arith) (p1 .1) in
-    let p3 = passed (isCdt cdt) 3 _ (omega arith) (p2 .1) in
-    let p4 = passed (isPolynomial table) 4 _ (omega arith) (p3 .1) in
-    let p5 = passed (leb (2 * n) limit && leb limit (32 * n)) 5 _ (omega arith) (p4 .1) in
-    let p7 = passed (leb (4 * limit) words) 7 _ (omega arith) (p5 .1) in
-    let p8 = passed (leb (drawListLength limit) list) 8 _ (omega arith) (p7 .1) in
-    let sizes = both-true (eqb (length cdt) 20) _ (p2 .0) in
+    let p : (k : ℕ) → testOf k (drawTests n limit cdt table words y list) ≡ true = λ k. passes k _ refl h in
+    let sizes = both-true (eqb (length cdt) 20) _ (p 2) in
     record {
-      degree = p1 .0;
+      degree = p 1;
       twenty = eqb-true (length cdt) 20 (sizes .0);
-      small = both-true (wordsSmall cdt) (neverFalls cdt) (p3 .0) .0;
-      is-polynomial = polynomial-of table (p4 .0);
+      small = both-true (wordsSmall cdt) (neverFalls cdt) (p 3) .0;
+      is-polynomial = polynomial-of table (p 4);
       both = eqb-true y (2 * n) (both-true (eqb (length table) 21) _ (sizes .1) .1);
-      limit-high = leb-true limit (32 * n) (both-true (leb (2 * n) limit) _ (p5 .0) .1);
-      words-enough = leb-true (4 * limit) words (p7 .0);
-      list-enough = leb-true (drawListLength limit) list (p8 .0);
+      limit-high = leb-true limit (32 * n) (both-true (leb (2 * n) limit) _ (p 5) .1);
+      words-enough = leb-true (4 * limit) words (p 7);
+      list-enough = leb-true (drawListLength limit) list (p 8);
     }
 
 -- a respond
@@ -71,29 +64,21 @@ pub record RespondServed (n : ℕ) (drawn : Bool) (challenge table : List ℕ) (
 
 pub respond-served : (n : ℕ) (drawn : Bool) (challenge table : List ℕ) (words : ℕ) (key y : List ℤ) (z list : ℕ) → respondRefusal n drawn challenge table words key y z list ≡ 0
     → RespondServed n drawn challenge table words key y z list
-unfolding respondRefusal noiseRefusal
+unfolding respondRefusal testOf numbered
 respond-served n drawn challenge table words key y z list h =
-    let p1 = passed (isDegree n) 1 _ (omega arith) h in
-    let p2 = passed (eqb (length table) 21 && (eqb (length y) (2 * n) && (eqb z (2 * n) && eqb (length key) (2 * n)))) 2 _ (omega arith) (p1 .1) in
-    let p4 = passed (isPolynomial table) 4 _ (omega arith) (p2 .1) in
-    let p6 = passed (isChallenge n challenge) 6 _ (omega arith) (p4 .1) in
-    let p7 = passed (leb 3 words) 7 _ (omega arith) (p6 .1) in
-    let p8 = passed (leb (respondListLength n (length challenge)) list) 8 _ (omega arith) (p7 .1) in
-    let p9 = passed drawn 9 _ (omega arith) (p8 .1) in
-    let p10 = passed (allWithin keyBound key) 10 _ (omega arith) (p9 .1) in
-    let p11 = passed (allWithin noiseBound y) 11 _ (omega arith) (p10 .1) in
-    let sizes = both-true (eqb (length y) (2 * n)) _ (both-true (eqb (length table) 21) _ (p2 .0) .1) in
+    let p : (k : ℕ) → testOf k (respondTests n drawn challenge table words key y z list) ≡ true = λ k. passes k _ refl h in
+    let sizes = both-true (eqb (length y) (2 * n)) _ (both-true (eqb (length table) 21) _ (p 2) .1) in
     let z-key = both-true (eqb z (2 * n)) (eqb (length key) (2 * n)) (sizes .1) in
     record {
-      degree = p1 .0;
-      is-polynomial = polynomial-of table (p4 .0);
+      degree = p 1;
+      is-polynomial = polynomial-of table (p 4);
       y-both = eqb-true (length y) (2 * n) (sizes .0);
       z-both = eqb-true z (2 * n) (z-key .0);
       key-both = eqb-true (length key) (2 * n) (z-key .1);
-      positions = challenge-of n challenge (p6 .0);
-      words-enough = leb-true 3 words (p7 .0);
-      list-enough = leb-true (respondListLength n (length challenge)) list (p8 .0);
-      is-drawn = p9 .0;
-      key-small = p10 .0;
-      y-small = p11 .0;
+      positions = challenge-of n challenge (p 6);
+      words-enough = leb-true 3 words (p 7);
+      list-enough = leb-true (respondListLength n (length challenge)) list (p 8);
+      is-drawn = p 9;
+      key-small = p 10;
+      y-small = p 11;
     }

@@ -15,30 +15,30 @@ pub fn draw_refusal(
     ensures { λ r. ⌜ r ≡ drawRefusal n limit (now (cdt .entry)) (now (polynomial .entry)) words y list ⌝ }
 {
     if !checks::is_degree(n) {
-        return 1;
+        return refused::DEGREE;
     }
     if (cdt.len() != base_sample::CDT_WORDS)
         | (polynomial.len() != exponential::POLYNOMIAL_WORDS)
         | (y != 2 * n)
     {
-        return 2;
+        return refused::LENGTHS;
     }
     let cdt_right = base_sample::is_cdt(cdt);
     let polynomial_right = exponential::is_polynomial(polynomial);
     if !cdt_right {
-        return 3;
+        return refused::CDT;
     }
     if !polynomial_right {
-        return 4;
+        return refused::POLYNOMIAL;
     }
     if (limit < 2 * n) | (32 * n < limit) {
-        return 5;
+        return refused::LIMIT;
     }
-    if words < 4 * limit {
-        return 7;
+    if words < attempt::WORDS * limit {
+        return refused::WORDS;
     }
-    if list < attempt::ENTRIES * limit + 2 {
-        return 8;
+    if list < attempt::ENTRIES * limit + sampler::OTHER_ENTRIES {
+        return refused::LIST;
     }
     0
 }
@@ -58,7 +58,7 @@ pub fn respond_refusal(
     ensures { λ r. ⌜ r ≡ respondRefusal n drawn (now (challenge .entry)) (now (polynomial .entry)) words (now (key .entry)) (now (y .entry)) z list ⌝ }
 {
     if !checks::is_degree(n) {
-        return 1;
+        return refused::DEGREE;
     }
     let both = 2 * n;
     if (polynomial.len() != exponential::POLYNOMIAL_WORDS)
@@ -66,20 +66,20 @@ pub fn respond_refusal(
         | (z != both)
         | (key.len() != both)
     {
-        return 2;
+        return refused::LENGTHS;
     }
     if !exponential::is_polynomial(polynomial) {
-        return 4;
+        return refused::POLYNOMIAL;
     }
     if !challenge::is_challenge(n, challenge) {
-        return 6;
+        return refused::CHALLENGE;
     }
-    if words < 3 {
-        return 7;
+    if words < response::WORDS {
+        return refused::WORDS;
     }
-    let list_short = list < both * challenge.len() + 47;
+    let list_short = list < both * challenge.len() + response::OTHER_ENTRIES;
     if list_short {
-        return 8;
+        return refused::LIST;
     }
     noise_refusal(drawn, key, y)
 }
@@ -90,13 +90,13 @@ fn noise_refusal(drawn: bool, key: &[i32], y: &[i32]) -> u32
     ensures { λ r. ⌜ r ≡ noiseRefusal drawn (now (key .entry)) (now (y .entry)) ⌝ }
 {
     if !drawn {
-        return 9;
+        return refused::NOT_DRAWN;
     }
     let key_small = signed::all_within(key, challenge::KEY_BOUND);
     let y_small = signed::all_within(y, response::NOISE_BOUND);
     if key_small & y_small {
         return 0;
     }
-    // 11 where the key is small: then y is not.
-    10 + key_small as u32
+    // The refusal after that of the key, where the key is small: then y is not.
+    refused::KEY + key_small as u32
 }

@@ -17,6 +17,14 @@ use acceptance::Measures;
 // The largest size of a value of y.
 pub const NOISE_BOUND: u32 = 2815;
 
+// The words of a response.
+pub const WORDS: usize = 3;
+
+// Where its entries of the key begin, behind the degree, and how many entries it lists beside them.
+const KEY_AT: usize = 1;
+
+pub const OTHER_ENTRIES: usize = KEY_AT + WORDS + acceptance::ENTRIES;
+
 // The answer of a response: its bit, and the entries listed.
 pub struct Answer {
     pub bit: bool,
@@ -98,8 +106,8 @@ fn measured(
     ensures { λ _. ⌜ now (list .exit) ≡ sets (now (list .entry)) 0 (entry 7 degree ∷ (productEntries degree (now (challenge .entry)) ++ placesUp 2 0 3)) ⌝ }
 {
     read_list::note(read_list::RESPONSE, degree, list, 0);
-    let squares = challenge::product_listed(key, degree, challenge, z, list, 1);
-    let at = 1 + 2 * degree * challenge.len();
+    let squares = challenge::product_listed(key, degree, challenge, z, list, KEY_AT);
+    let at = KEY_AT + 2 * degree * challenge.len();
     let w = response_words(words, list, at);
     let sums = add_product(w.first, y, z);
     Measures {
@@ -129,10 +137,10 @@ pub fn respond(
     ensures { λ r. ⌜ record { answer = r; y = now (y .exit); z = now (z .exit); list = now (list .exit) } ≡ respondedBy degree (responseBit (expScaled (now (table .entry)) reciprocal) (now (y .entry)) (product (now (key .entry)) degree (now (challenge .entry))) (now (words .entry))) (now (challenge .entry)) (responseZ (now (y .entry)) (product (now (key .entry)) degree (now (challenge .entry))) (now (words .entry))) (now (list .entry)) ⌝ }
 {
     let m = measured(degree, challenge, words, key, y, z, list);
-    let at = 2 * degree * challenge.len() + 4;
+    let at = KEY_AT + 2 * degree * challenge.len() + WORDS;
     let bit = acceptance::judged(table, reciprocal, m, list, at);
     signed::keep_all(z, bit);
     signed::zero_all(y);
-    let entries = at + 43;
+    let entries = at + acceptance::ENTRIES;
     Answer { bit, entries }
 }

@@ -6,6 +6,9 @@ ghost use Rattle.exponential.specs.Exponential.{expScaled};
 ghost use Rattle.attempt.specs.Attempt.{Tables};
 ghost use Rattle.sampler.specs.Draw.{drawBits, drawListLength, sampledBy};
 
+// The entries that a draw lists beside those of its attempts: the degree, and the samples accepted.
+pub const OTHER_ENTRIES: usize = 2;
+
 // The counts of a draw: attempts made, samples accepted, entries listed.
 pub struct Counts {
     pub attempts: usize,

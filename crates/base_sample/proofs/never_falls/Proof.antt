@@ -25,6 +25,16 @@ Inv-loop cdt i₀ i = (i ≤ 9) × (allBelow (rises cdt) i ≡ true)
 abbrev μ-loop : tie.MeasureT-loop
 μ-loop cdt i₀ i = 9 - i
 
+-- ** The states, each from the one after it
+
+abbrev start : tie.At-loop Inv-loop μ-loop → tie.Start Inv-loop μ-loop
+start c = c .before .before
+
+abbrev turn : tie.After-threshold-at Inv-loop μ-loop → tie.At-loop Inv-loop μ-loop
+turn c = c .before .before
+
+-- ** In the loop
+
 loop-holds : tie.Need-loop-holds Inv-loop μ-loop
 loop-holds c = (omega arith, all-none _)
 
@@ -37,9 +47,9 @@ add-threshold-at c = omega arith
 threshold-at-requires-2 : tie.Need-threshold-at-requires-2 Inv-loop μ-loop
 threshold-at-requires-2 c κs = search needs
 
-below-requires : tie.Need-below-requires Inv-loop μ-loop
-below-requires c κs =
-    let s = c .before .before .before .before .before in
+less62-requires : tie.Need-less62-requires Inv-loop μ-loop
+less62-requires c κs =
+    let s = start (turn (c .before)) in
     let here = c .before .threshold-at .ensures in
     let small = s .pre .1 in (
       rw (c .threshold-at2 .ensures .1) (word-small (s .args .cdt .now) _ (omega arith) small),
@@ -52,18 +62,18 @@ falls : (cdt : List ℕ) (i h l h′ l′ r : ℕ) → h ≡ getD cdt (2 * i) 0 
     → r ≡ bit (ltb (h′ * 2 ^ 62 + l′) (h * 2 ^ 62 + l)) → r ≡ bit (ltb (threshold cdt (suc i)) (threshold cdt i))
 falls cdt i h l h′ l′ r e₁ e₂ e₃ e₄ e = e ∙ rw (e₁, e₂, e₃, e₄, add-one i)
 
-module _ (c : tie.After-below Inv-loop μ-loop) where
+module _ (c : tie.After-less62 Inv-loop μ-loop) where
   abbrev here : ℕ
-  here = c .before .before .before .before .loop .i
+  here = turn (c .before .before) .loop .i
 
   abbrev table : List ℕ
-  table = c .before .before .before .before .before .before .args .cdt .now
+  table = start (turn (c .before .before)) .args .cdt .now
 
-  compared : c .below .result ≡ bit (ltb (threshold table (suc here)) (threshold table here))
+  compared : c .less62 .result ≡ bit (ltb (threshold table (suc here)) (threshold table here))
   compared =
       let this = c .before .before .threshold-at .ensures in
       let next = c .before .threshold-at2 .ensures in
-      falls table here _ _ _ _ _ (this .0) (this .1) (next .0) (next .1) (c .below .ensures)
+      falls table here _ _ _ _ _ (this .0) (this .1) (next .0) (next .1) (c .less62 .ensures)
 
 returns : tie.Need-returns Inv-loop μ-loop
 unfolding neverFalls
@@ -80,7 +90,7 @@ loop-less c = omega arith
 loop-again : tie.Need-loop-again Inv-loop μ-loop
 loop-again c =
     let d = c .before in
-    (omega arith, all-more (rises (table d)) (here d) (d .before .before .before .before .loop .inv .1) (not-below (threshold (table d) (here d)) (threshold (table d) (suc (here d))) (λ z. c .if1 .left (compared d ∙ z))))
+    (omega arith, all-more (rises (table d)) (here d) (turn (d .before .before) .loop .inv .1) (not-below (threshold (table d) (here d)) (threshold (table d) (suc (here d))) (λ z. c .if1 .left (compared d ∙ z))))
 
 returns-2 : tie.Need-returns-2 Inv-loop μ-loop
 unfolding neverFalls
@@ -89,4 +99,4 @@ returns-2 c = all-done _ _ 9 (c .before .loop .inv .0) (c .loop-test .left) (c .
 pub never-falls-spec : {M : Type 1} → statement M
 never-falls-spec =
     tie.close
-    (tie.spec Inv-loop μ-loop loop-holds threshold-at-requires add-threshold-at threshold-at-requires-2 below-requires returns add-i loop-less loop-again returns-2)
+    (tie.spec Inv-loop μ-loop loop-holds threshold-at-requires add-threshold-at threshold-at-requires-2 less62-requires returns add-i loop-less loop-again returns-2)

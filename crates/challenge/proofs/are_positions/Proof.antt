@@ -1,30 +1,31 @@
 -- `challenge::are_positions` meets its contract: the positions are looked at where there are not too many. Assumes nothing.
 use borrow.Author.Needs.{needs}
-use borrow.Author.Tests.{not-true, not-false}
-use mathlib.Core.Path.{_≡_, sym, _∙_}
+use mathlib.Core.Path.{_≡_}
 use mathlib.Core.Bool.{true, not, _||_}
+use mathlib.Core.List.{[], _∷_}
 use Prim.Native.Nat.{ℕ}
 use lib.Dec.{leb, ltb}
 use lib.ListN.{length}
-use Rattle.checks.proofs.JoinedTests.{two-fail, below-not-above}
+use Rattle.checks.proofs.JoinedTests.{holds-else, fails-then, below-not-above, allHold, orFails, one-fails}
 use Rattle.challenge.specs.Challenge.{lengthFits, arePositions}
 use Rattle.challenge.proofs.are_positions.Statement.{statement}
 use Rattle.challenge.proofs.are_positions.Tie as tie
 
 count-fails : (n count : ℕ) → (ltb 64 count || ltb n count) ≡ not (lengthFits n count)
-count-fails n count = rw (below-not-above 64 count, below-not-above n count) (two-fail (leb count 64) (leb count n))
+unfolding allHold orFails
+count-fails n count = rw (below-not-above 64 count, below-not-above n count) (one-fails (leb count 64) (leb count n ∷ []))
 
 fits : (c : tie.Else1) → let a = c .before .before .args in lengthFits (a .n) (length (a .challenge .now)) ≡ true
 fits c =
     let a = c .before .before .args in
-    not-false _ (sym (count-fails (a .n) (length (a .challenge .now))) ∙ c .if1 .left)
+    holds-else (count-fails (a .n) (length (a .challenge .now))) (c .if1 .left)
 
 returns : tie.Need-returns
 unfolding arePositions
 returns c =
     let a = c .before .before .args in
     let count = length (a .challenge .now) in
-    rw (not-true (lengthFits (a .n) count) (sym (count-fails (a .n) count) ∙ c .if1 .taken))
+    rw (fails-then {test = lengthFits (a .n) count} (count-fails (a .n) count) (c .if1 .taken))
 
 positions-below-requires : tie.Need-positions-below-requires
 positions-below-requires c κs = search needs

@@ -1,137 +1,167 @@
--- `refusals::draw_refusal` meets its contract: a test that is reached follows on tests that hold. Assumes nothing.
+-- `refusals::draw_refusal` meets its contract: a line of the table that is reached follows on lines whose tests hold. Assumes nothing.
 use borrow.Author.Needs.{needs}
-use mathlib.Core.Path.{_≡_, sym, _∙_}
+use mathlib.Core.Path.{_≡_, refl, sym}
 use mathlib.Core.Bool.{Bool, true, not, _&&_, _||_}
+use mathlib.Core.List.{List, [], _∷_}
 use Prim.Native.Nat.{ℕ, _*_, _≤_}
 use native.Mathlib.Omega.{arith}
 use lib.Dec.{leb, ltb, eqb}
 use lib.ListN.{length}
-use borrow.Author.Tests.{not-true, not-false, eqb-true, leb-true, lt-leb, le-leb}
-use Rattle.checks.specs.Checks.{isDegree, unless}
-use Rattle.checks.proofs.JoinedTests.{both-true, two-fail, three-fail, below-not-above, holds, fails}
+use borrow.Author.Tests.{eqb-true, leb-true, lt-leb, le-leb}
+use Rattle.checks.specs.Checks.{isDegree, Line, firstRefusal}
+use Rattle.checks.proofs.JoinedTests.{holds, fails, holds-else, fails-then, below-not-above, both-true, allHold, orFails, one-fails}
 use Rattle.checks.proofs.Degrees.{degree-range}
-use Rattle.checks.proofs.Unless.{refused, not-refused}
-use Rattle.exponential.specs.Exponential.{isPolynomial}
-use Rattle.base_sample.specs.BaseSample.{isCdt}
-use Rattle.sampler.specs.Draw.{drawListLength}
-use Rattle.refusals.specs.Refusals.{drawRefusal}
+use Rattle.checks.proofs.Lines.{from, Reached, leaves, goes-on}
+use Rattle.refusals.specs.Refusals.{drawTests, drawRefusal}
 use Rattle.refusals.proofs.draw_refusal.Statement.{statement}
 use Rattle.refusals.proofs.draw_refusal.Tie as tie
 
-abbrev refusal : tie.Start → ℕ
-refusal s = let a = s .args in drawRefusal (a .n) (a .limit) (a .cdt .now) (a .polynomial .now) (a .words) (a .y) (a .list)
+abbrev tests : tie.Start → List Line
+tests s = let a = s .args in drawTests (a .n) (a .limit) (a .cdt .now) (a .polynomial .now) (a .words) (a .y) (a .list)
+
+abbrev From : (refusal : ℕ) → tie.Start → Type 0
+From k s =
+    let a = s .args in
+    Reached (drawRefusal (a .n) (a .limit) (a .cdt .now) (a .polynomial .now) (a .words) (a .y) (a .list)) (from k (tests s))
+
+-- ** The states: the start, from behind each test
+
+abbrev start : tie.After-is-degree → tie.Start
+start c = c .before .before .before
+
+abbrev behind-1 : tie.Else1 → tie.Start
+behind-1 c = start (c .before)
+
+abbrev behind-2 : tie.Else2 → tie.Start
+behind-2 c = behind-1 (c .before)
+
+abbrev behind-3 : tie.Else3 → tie.Start
+behind-3 c = behind-2 (c .before .before .before)
+
+abbrev behind-4 : tie.Else4 → tie.Start
+behind-4 c = behind-3 (c .before)
+
+abbrev behind-5 : tie.Else5 → tie.Start
+behind-5 c = behind-4 (c .before)
 
 -- ** Refusal 1
 
 is-degree-requires : tie.Need-is-degree-requires
 is-degree-requires c κs = search needs
 
+from-1 : (c : tie.After-is-degree) → From 1 (start c)
+unfolding drawRefusal from
+from-1 c = record { told = refl }
+
 returns : tie.Need-returns
-unfolding drawRefusal unless
-returns c = rw (fails (c .before .is-degree .ensures) (c .if1 .taken))
+unfolding from
+returns c = leaves (from-1 (c .before)) (fails (c .before .is-degree .ensures) (c .if1 .taken))
 
-abbrev start : tie.Else1 → tie.Start
-start c = c .before .before .before .before
-
-degree : (c : tie.Else1) → isDegree (start c .args .n) ≡ true
+degree : (c : tie.Else1) → isDegree (behind-1 c .args .n) ≡ true
 degree c = holds (c .before .is-degree .ensures) (c .if1 .left)
 
-small : (c : tie.Else1) → start c .args .n ≤ 1024
-small c = degree-range (start c .args .n) (degree c) .1
+small : (c : tie.Else1) → behind-1 c .args .n ≤ 1024
+small c = degree-range (behind-1 c .args .n) (degree c) .1
 
 -- ** Refusal 2
 
-abbrev size-test : tie.Start → Bool
-size-test c = let a = c .args in eqb (length (a .cdt .now)) 20 && (eqb (length (a .polynomial .now)) 21 && eqb (a .y) (2 * a .n))
-
-sizes-fail : (c : tie.Start) → let a = c .args in ((not (eqb (length (a .cdt .now)) 20) || not (eqb (length (a .polynomial .now)) 21)) || not (eqb (a .y) (2 * a .n))) ≡ not (size-test c)
-sizes-fail c = let a = c .args in three-fail (eqb (length (a .cdt .now)) 20) (eqb (length (a .polynomial .now)) 21) (eqb (a .y) (2 * a .n))
+from-2 : (c : tie.Else1) → From 2 (behind-1 c)
+unfolding from
+from-2 c = goes-on (from-1 (c .before)) (degree c)
 
 mul-if2 : tie.Need-mul-if2
 mul-if2 c = omega (arith, small c)
 
-sizes : (c : tie.Else2) → size-test (start (c .before)) ≡ true
-sizes c = not-false _ (sym (sizes-fail (start (c .before))) ∙ c .if2 .left)
+abbrev cdt-length : tie.Start → Bool
+cdt-length s = eqb (length (s .args .cdt .now)) 20
+
+abbrev other-lengths : tie.Start → List Bool
+other-lengths s = eqb (length (s .args .polynomial .now)) 21 ∷ eqb (s .args .y) (2 * s .args .n) ∷ []
 
 returns-2 : tie.Need-returns-2
-unfolding drawRefusal unless
-returns-2 c = rw (degree (c .before), not-true (size-test (start (c .before))) (sym (sizes-fail (start (c .before))) ∙ c .if2 .taken))
+unfolding from allHold orFails
+returns-2 c = let s = behind-1 (c .before) in leaves (from-2 (c .before)) (fails-then (one-fails (cdt-length s) (other-lengths s)) (c .if2 .taken))
 
--- ** Refusals 3 and 4
+lengths : (c : tie.Else2) → allHold (cdt-length (behind-2 c)) (other-lengths (behind-2 c)) ≡ true
+unfolding allHold orFails
+lengths c = let s = behind-2 c in holds-else (one-fails (cdt-length s) (other-lengths s)) (c .if2 .left)
+
+-- ** Refusal 3
+
+from-3 : (c : tie.Else2) → From 3 (behind-2 c)
+unfolding from allHold
+from-3 c = goes-on (from-2 (c .before)) (lengths c)
 
 is-cdt-requires : tie.Need-is-cdt-requires
-is-cdt-requires c κs = eqb-true _ 20 (both-true (eqb (length (start (c .before) .args .cdt .now)) 20) _ (sizes c) .0)
+unfolding allHold
+is-cdt-requires c κs = eqb-true _ 20 (both-true (cdt-length (behind-2 c)) _ (lengths c) .0)
 
 is-polynomial-requires : tie.Need-is-polynomial-requires
 is-polynomial-requires c κs = search needs
 
-cdt : (c : tie.Else3) → isCdt (start (c .before .before .before .before) .args .cdt .now) ≡ true
-cdt c = holds (c .before .before .is-cdt .ensures) (c .if3 .left)
-
 returns-3 : tie.Need-returns-3
-unfolding drawRefusal unless
-returns-3 c =
-    let two = c .before .before .before in
-    rw (degree (two .before), sizes two, fails (c .before .before .is-cdt .ensures) (c .if3 .taken))
+unfolding from
+returns-3 c = let cdt = c .before .before in leaves (from-3 (cdt .before)) (fails (cdt .is-cdt .ensures) (c .if3 .taken))
 
-polynomial : (c : tie.Else4) → isPolynomial (start (c .before .before .before .before .before) .args .polynomial .now) ≡ true
-polynomial c = holds (c .before .before .is-polynomial .ensures) (c .if4 .left)
+-- ** Refusal 4
+
+from-4 : (c : tie.Else3) → From 4 (behind-3 c)
+unfolding from
+from-4 c = let cdt = c .before .before in goes-on (from-3 (cdt .before)) (holds (cdt .is-cdt .ensures) (c .if3 .left))
 
 returns-4 : tie.Need-returns-4
-unfolding drawRefusal unless
-returns-4 c =
-    let three = c .before in
-    let two = three .before .before .before in
-    rw (degree (two .before), sizes two, cdt three, fails (three .before .is-polynomial .ensures) (c .if4 .taken))
+unfolding from
+returns-4 c = leaves (from-4 (c .before)) (fails (c .before .before .is-polynomial .ensures) (c .if4 .taken))
 
--- ** From refusal 5 on: where those before don't apply, the others decide
+-- ** Refusal 5
 
-abbrev start-4 : tie.Else4 → tie.Start
-start-4 c = start (c .before .before .before .before .before)
+from-5 : (c : tie.Else4) → From 5 (behind-4 c)
+unfolding from
+from-5 c = goes-on (from-4 (c .before)) (holds (c .before .before .is-polynomial .ensures) (c .if4 .left))
+
+small-4 : (c : tie.Else4) → behind-4 c .args .n ≤ 1024
+small-4 c = small (c .before .before .before .before .before)
 
 mul-if5 : tie.Need-mul-if5
-mul-if5 c = omega (arith, small (c .before .before .before .before .before))
+mul-if5 c = omega (arith, small-4 c)
 
 mul-if5-2 : tie.Need-mul-if5-2
-mul-if5-2 c = omega (arith, small (c .before .before .before .before .before))
+mul-if5-2 c = omega (arith, small-4 c)
 
-abbrev limit-test : tie.Start → Bool
-limit-test s = let a = s .args in leb (2 * a .n) (a .limit) && leb (a .limit) (32 * a .n)
-
-limits-fail : (s : tie.Start) → let a = s .args in (ltb (a .limit) (2 * a .n) || ltb (32 * a .n) (a .limit)) ≡ not (limit-test s)
-limits-fail s =
-    let a = s .args in
-    rw (below-not-above (a .limit) (2 * a .n), below-not-above (32 * a .n) (a .limit)) (two-fail (leb (2 * a .n) (a .limit)) (leb (a .limit) (32 * a .n)))
-
-abbrev from-7 : tie.Start → ℕ
-from-7 s = let a = s .args in unless (leb (4 * a .limit) (a .words)) 7 (unless (leb (drawListLength (a .limit)) (a .list)) 8 0)
-
-from-5-on : (c : tie.Else4) → let s = start-4 c in refusal s ≡ unless (limit-test s) 5 (from-7 s)
-unfolding drawRefusal unless
-from-5-on c =
-    let three = c .before in
-    let two = three .before .before .before in
-    rw (degree (two .before), sizes two, cdt three, polynomial c)
+limit-fails : (n limit : ℕ) → (ltb limit (2 * n) || ltb (32 * n) limit) ≡ not (leb (2 * n) limit && leb limit (32 * n))
+unfolding allHold orFails
+limit-fails n limit = rw (below-not-above limit (2 * n), below-not-above (32 * n) limit) (one-fails (leb (2 * n) limit) (leb limit (32 * n) ∷ []))
 
 returns-5 : tie.Need-returns-5
-returns-5 c = sym (from-5-on (c .before) ∙ refused _ 5 _ (not-true _ (sym (limits-fail (start-4 (c .before))) ∙ c .if5 .taken)))
+unfolding from
+returns-5 c = let a = behind-4 (c .before) .args in leaves (from-5 (c .before)) (fails-then (limit-fails (a .n) (a .limit)) (c .if5 .taken))
 
-limits : (c : tie.Else5) → limit-test (start-4 (c .before)) ≡ true
-limits c = not-false _ (sym (limits-fail (start-4 (c .before))) ∙ c .if5 .left)
+limit-fits : (c : tie.Else5) → let a = behind-5 c .args in (leb (2 * a .n) (a .limit) && leb (a .limit) (32 * a .n)) ≡ true
+limit-fits c = let a = behind-5 c .args in holds-else (limit-fails (a .n) (a .limit)) (c .if5 .left)
 
-limit-small : (c : tie.Else5) → start-4 (c .before) .args .limit ≤ 32768
+limit-small : (c : tie.Else5) → behind-5 c .args .limit ≤ 32768
 limit-small c =
-    let a = start-4 (c .before) .args in
-    omega (arith, small (c .before .before .before .before .before .before), leb-true (a .limit) (32 * a .n) (both-true (leb (2 * a .n) (a .limit)) _ (limits c) .1))
+    let a = behind-5 c .args in
+    omega (arith, small-4 (c .before), leb-true (a .limit) (32 * a .n) (both-true (leb (2 * a .n) (a .limit)) _ (limit-fits c) .1))
 
-from-7-on : (c : tie.Else5) → let s = start-4 (c .before) in refusal s ≡ from-7 s
-from-7-on c = from-5-on (c .before) ∙ not-refused _ 5 _ (limits c)
+-- ** Refusal 7
+
+from-7 : (c : tie.Else5) → From 7 (behind-5 c)
+unfolding from
+from-7 c = goes-on (from-5 (c .before)) (limit-fits c)
 
 mul-if6 : tie.Need-mul-if6
 mul-if6 c = omega (arith, limit-small c)
 
 returns-6 : tie.Need-returns-6
-returns-6 c = sym (from-7-on (c .before) ∙ refused _ 7 _ (lt-leb _ _ (c .if6 .taken)))
+unfolding from
+returns-6 c = leaves (from-7 (c .before)) (lt-leb _ _ (c .if6 .taken))
+
+-- ** Refusal 8
+
+from-8 : (c : tie.Else6) → From 8 (behind-5 (c .before))
+unfolding from
+from-8 c = goes-on (from-7 (c .before)) (le-leb _ _ (c .if6 .left))
 
 mul-if7 : tie.Need-mul-if7
 mul-if7 c = omega (arith, limit-small (c .before))
@@ -139,14 +169,15 @@ mul-if7 c = omega (arith, limit-small (c .before))
 add-if7 : tie.Need-add-if7
 add-if7 c = omega (arith, limit-small (c .before))
 
-from-8-on : (c : tie.Else6) → let s = start-4 (c .before .before) in refusal s ≡ unless (leb (drawListLength (s .args .limit)) (s .args .list)) 8 0
-from-8-on c = from-7-on (c .before) ∙ not-refused _ 7 _ (le-leb _ _ (c .if6 .left))
-
 returns-7 : tie.Need-returns-7
-returns-7 c = sym (from-8-on (c .before) ∙ refused _ 8 _ (lt-leb _ _ (c .if7 .taken)))
+unfolding from
+returns-7 c = leaves (from-8 (c .before)) (lt-leb _ _ (c .if7 .taken))
+
+-- ** Served
 
 returns-8 : tie.Need-returns-8
-returns-8 c = sym (from-8-on (c .before) ∙ not-refused _ 8 _ (le-leb _ _ (c .if7 .left)))
+unfolding from firstRefusal
+returns-8 c = sym (goes-on (from-8 (c .before)) (le-leb _ _ (c .if7 .left)) .told)
 
 pub draw-refusal-spec : {M : Type 1} → statement M
 draw-refusal-spec =

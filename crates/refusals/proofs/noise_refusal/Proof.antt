@@ -3,22 +3,23 @@ use borrow.Author.Needs.{needs}
 use borrow.Author.Tests.{not-true, not-false}
 use mathlib.Core.Path.{_≡_, refl}
 use mathlib.Core.Bool.{Bool, true, false, _&&_}
+use mathlib.Core.List.{[], _∷_}
 use Prim.Native.Nat.{_+_, _<_, _^_}
 use native.Mathlib.Omega.{arith}
 use mir.Val.{boolByte}
-use Rattle.checks.specs.Checks.{unless}
+use Rattle.checks.specs.Checks.{line, firstRefusal}
 use Rattle.refusals.specs.Refusals.{noiseRefusal}
 use Rattle.refusals.proofs.noise_refusal.Statement.{statement}
 use Rattle.refusals.proofs.noise_refusal.Tie as tie
 
-both-small : (key y : Bool) → (key && y) ≡ true → 0 ≡ unless key 10 (unless y 11 0)
-unfolding unless
+both-small : (key y : Bool) → (key && y) ≡ true → 0 ≡ firstRefusal (line 10 key ∷ line 11 y ∷ [])
+unfolding firstRefusal
 both-small true true e = refl
 both-small true false e = cc
 both-small false y e = cc
 
-one-outside : (key y : Bool) → (key && y) ≡ false → 10 + boolByte key ≡ unless key 10 (unless y 11 0)
-unfolding unless
+one-outside : (key y : Bool) → (key && y) ≡ false → 10 + boolByte key ≡ firstRefusal (line 10 key ∷ line 11 y ∷ [])
+unfolding firstRefusal
 one-outside true true e = cc
 one-outside true false e = refl
 one-outside false y e = refl
@@ -30,7 +31,7 @@ number-small false = omega arith
 -- ** Refusal 9
 
 returns : tie.Need-returns
-unfolding noiseRefusal unless
+unfolding noiseRefusal firstRefusal
 returns c = rw (not-true (c .before .args .drawn) (c .if1 .taken))
 
 -- ** Refusals 10 and 11
@@ -43,8 +44,8 @@ all-within-requires-2 c κs = search needs
 
 -- drawn, the other two decide
 drawn-then : (c : tie.After-all-within2) → let a = c .before .before .before .args in
-    noiseRefusal (a .drawn) (a .key .now) (a .y .now) ≡ unless (c .before .all-within .result) 10 (unless (c .all-within2 .result) 11 0)
-unfolding noiseRefusal unless
+    noiseRefusal (a .drawn) (a .key .now) (a .y .now) ≡ firstRefusal (line 10 (c .before .all-within .result) ∷ line 11 (c .all-within2 .result) ∷ [])
+unfolding noiseRefusal firstRefusal
 drawn-then c = rw (c .before .all-within .ensures, c .all-within2 .ensures, not-false (c .before .before .before .args .drawn) (c .before .before .if1 .left))
 
 returns-2 : tie.Need-returns-2

@@ -24,11 +24,23 @@ Inv-loop word y z₀ sign norm₀ inner₀ i₀ z norm inner i = Added (response
 abbrev μ-loop : tie.MeasureT-loop
 μ-loop word y z₀ sign norm₀ inner₀ i₀ z norm inner i = length z₀ - i
 
+-- ** The states, each from the one after it
+
+abbrev start : tie.At-loop Inv-loop μ-loop → tie.Start Inv-loop μ-loop
+start c = c .before .before .before
+
+abbrev turn : tie.After-response-at Inv-loop μ-loop → tie.At-loop Inv-loop μ-loop
+turn c = c .before .before .before .before
+
+-- ** The whole response
+
 abbrev whole : tie.Start Inv-loop μ-loop → List ℤ
 whole c = responseOf (subtracts (c .args .word)) (c .args .y .now) (c .args .z .now)
 
 lengths : (c : tie.Start Inv-loop μ-loop) → length (whole c) ≡ length (c .args .z .now)
 lengths c = length-response (subtracts (c .args .word)) (c .args .y .now) (c .args .z .now) (c .pre .0)
+
+-- ** One value
 
 bit0-requires : tie.Need-bit0-requires Inv-loop μ-loop
 bit0-requires c κs = tt
@@ -49,17 +61,22 @@ mul-response-at : tie.Need-mul-response-at Inv-loop μ-loop
 mul-response-at c = search needs
 
 -- the place is one of both vectors
-inside : (c : tie.In-loop Inv-loop μ-loop) → c .before .loop .i < length (c .before .before .before .before .args .z .now)
+inside : (c : tie.In-loop Inv-loop μ-loop) → c .before .loop .i < length (start (c .before) .args .z .now)
 inside c = omega (arith, c .loop-test .taken, c .before .loop .inv .size)
 
 shared-slice-copy-out-response-at : tie.Need-shared-slice-copy-out-response-at Inv-loop μ-loop
 shared-slice-copy-out-response-at c = search needs
 
 -- the product, y and the sign, as they are read
-product-read : (c : tie.After-sc Inv-loop μ-loop) → toZ w32 (ofZ w32 (getD (c .before .before .loop .z) (c .before .before .loop .i) (pos 0))) ≡ getD (c .before .before .before .before .before .args .z .now) (c .before .before .loop .i) (pos 0)
-product-read c = read-back (record { sfits = c .sc .given }) ∙ product-stands (lengths (c .before .before .before .before .before)) (c .before .before .loop .inv) (inside (c .before))
+product-read : (c : tie.After-sc Inv-loop μ-loop) → let l = c .before .before in
+    toZ w32 (ofZ w32 (getD (l .loop .z) (l .loop .i) (pos 0))) ≡ getD (start l .args .z .now) (l .loop .i) (pos 0)
+product-read c =
+    let l = c .before .before in
+    read-back (record { sfits = c .sc .given }) ∙ product-stands (lengths (start l)) (l .loop .inv) (inside (c .before))
 
-y-read : (c : tie.After-response-at-arg Inv-loop μ-loop) → let y = c .before .before .before .before .before .before .args .y .now in toZ w32 (ofZ w32 (getD y (c .before .before .before .loop .i) (pos 0))) ≡ getD y (c .before .before .before .loop .i) (pos 0)
+y-read : (c : tie.After-response-at-arg Inv-loop μ-loop) → let l = c .before .before .before in
+    let y = getD (start l .args .y .now) (l .loop .i) (pos 0) in
+    toZ w32 (ofZ w32 y) ≡ y
 y-read c = read-back (record { sfits = c .response-at-arg .given })
 
 sign-read : (c : tie.After-sign-of Inv-loop μ-loop) → toZ w32 (ofZ w32 (c .sign-of .result)) ≡ sign (subtracts (c .before .before .args .word))
@@ -67,24 +84,28 @@ sign-read c = read-back (record { sfits = c .sign-of .ok }) ∙ c .sign-of .ensu
 
 response-at-requires : tie.Need-response-at-requires Inv-loop μ-loop
 response-at-requires c κs =
-    let s = c .before .before .before .before .before .before in
-    let i = c .before .before .before .loop .i in
-    let g = c .before .before .before .before in (
+    let l = c .before .before .before in
+    let s = start l in
+    let i = l .loop .i in
+    let g = l .before in (
       rw (y-read c) (within-at noiseBound (s .args .y .now) (s .pre .2) i),
       rw (product-read (c .before)) (within-at outputBound (s .args .z .now) (s .pre .3) i),
       rw (read-back (record { sfits = g .sign-of .ok })) (g .sign-of .ensures .1),
     )
 
 -- the value that is made is the response's
-made : (c : tie.After-response-at Inv-loop μ-loop) → c .response-at .result ≡ getD (whole (c .before .before .before .before .before .before .before)) (c .before .before .before .before .loop .i) (pos 0)
+made : (c : tie.After-response-at Inv-loop μ-loop) → c .response-at .result ≡ getD (whole (start (turn c))) (turn c .loop .i) (pos 0)
 made c =
-    let s = c .before .before .before .before .before .before .before in
-    let i = c .before .before .before .before .loop .i in
+    let l = turn c in
+    let s = start l in
+    let i = l .loop .i in
     let g = subtracts (s .args .word) in
     let sc = getD (s .args .z .now) i (pos 0) in
+    let here = inside (c .before .before .before) in
+    let product = ap₂ (λ (a b : ℤ). a *ℤ b) (product-read (c .before .before)) (sign-read (l .before)) ∙ times-sign sc g in
     c .response-at .ensures .0
-    ∙ ap₂ (λ (a b : ℤ). a +ℤ b) (y-read (c .before)) (ap₂ (λ (a b : ℤ). a *ℤ b) (product-read (c .before .before)) (sign-read (c .before .before .before .before .before)) ∙ times-sign sc g)
-    ∙ sym (response-at g (s .args .y .now) (s .args .z .now) i (omega (arith, inside (c .before .before .before), s .pre .0)) (inside (c .before .before .before)))
+    ∙ ap₂ (λ (a b : ℤ). a +ℤ b) (y-read (c .before)) product
+    ∙ sym (response-at g (s .args .y .now) (s .args .z .now) i (omega (arith, here, s .pre .0)) here)
 
 mul-v : tie.Need-mul-v Inv-loop μ-loop
 mul-v c = search needs
@@ -95,13 +116,17 @@ slice-set-from-v c = search needs
 square-requires : tie.Need-square-requires Inv-loop μ-loop
 square-requires c κs = rw (read-back (record { sfits = c .response-at .ok })) (omega (arith, c .response-at .ensures .1))
 
-squared : (c : tie.After-square Inv-loop μ-loop) → let v = getD (whole (c .before .before .before .before .before .before .before .before)) (c .before .before .before .before .before .loop .i) (pos 0) in c .square .result ≡ natAbs v * natAbs v
+-- ** The sums
+
+squared : (c : tie.After-square Inv-loop μ-loop) → let l = turn (c .before) in
+    let v = getD (whole (start l)) (l .loop .i) (pos 0) in
+    c .square .result ≡ natAbs v * natAbs v
 squared c = c .square .ensures ∙ ap (λ (v : ℤ). natAbs v * natAbs v) (read-back (record { sfits = c .before .response-at .ok }) ∙ made (c .before))
 
 add-norm : tie.Need-add-norm Inv-loop μ-loop
 add-norm c =
-    let s = c .before .before .before .before .before .before .before .before in
-    let l = c .before .before .before .before .before .loop in
+    let s = start (turn (c .before)) in
+    let l = turn (c .before) .loop in
     record {
       fits =
           omega (
@@ -115,8 +140,8 @@ add-norm c =
 
 plus-product-requires : tie.Need-plus-product-requires Inv-loop μ-loop
 plus-product-requires c κs =
-    let s = c .before .before .before .before .before .before .before .before in
-    let l = c .before .before .before .before .before .loop in (
+    let s = start (turn (c .before)) in
+    let l = turn (c .before) .loop in (
       omega (arith, l .inv .inner-small, l .inv .turns, s .pre .1),
       rw (read-back (record { sfits = c .before .response-at .ok })) (omega (arith, c .before .response-at .ensures .1)),
       rw (product-read (c .before .before .before)) (omega (arith, within-at outputBound (s .args .z .now) (s .pre .3) (l .i))),
@@ -130,22 +155,24 @@ loop-less c = omega arith
 
 loop-again : tie.Need-loop-again Inv-loop μ-loop
 loop-again c =
-    let s = c .before .before .before .before .before .before .before .before .before in
-    let l = c .before .before .before .before .before .before .loop in
     let r = c .before .before in
+    let s = start (turn r) in
+    let l = turn r .loop in
     let v = read-back (record { sfits = r .response-at .ok }) ∙ made r in
-    add-more (lengths s) (l .inv) (inside (c .before .before .before .before .before))
+    add-more (lengths s) (l .inv) (inside (r .before .before .before))
     (within-at responseBound (whole s) (response-within (subtracts (s .args .word)) (s .args .y .now) (s .args .z .now) (s .pre .2) (s .pre .3)) (l .i))
     (within-at outputBound (s .args .z .now) (s .pre .3) (l .i))
     (ap (λ (x : ℤ). set (l .z) (l .i) x) v)
     (ap (λ (m : ℕ). l .norm + m) (squared (c .before)))
-    (read-back (record { sfits = c .plus-product .ok }) ∙ c .plus-product .ensures ∙ ap₂ (λ (a b : ℤ). toZ w64 (l .inner) +ℤ (a *ℤ b)) v (product-read (c .before .before .before .before)))
+    (read-back (record { sfits = c .plus-product .ok })
+    ∙ c .plus-product .ensures
+    ∙ ap₂ (λ (a b : ℤ). toZ w64 (l .inner) +ℤ (a *ℤ b)) v (product-read (r .before .before)))
 
 same-length : tie.Need-same-length Inv-loop μ-loop
 same-length c = search needs
 
 returns : tie.Need-returns Inv-loop μ-loop
-returns c = add-end (lengths (c .before .before .before .before)) (c .before .loop .inv) (omega (arith, c .loop-test .left, c .before .loop .inv .size))
+returns c = add-end (lengths (start (c .before))) (c .before .loop .inv) (omega (arith, c .loop-test .left, c .before .loop .inv .size))
 
 pub add-product-spec : {M : Type 1} → statement M
 add-product-spec =

@@ -21,6 +21,22 @@ use Rattle.response.proofs.Passes.{inner-bound}
 use Rattle.response.proofs.measured.Statement.{statement}
 use Rattle.response.proofs.measured.Tie as tie
 
+-- ** The states, each from the one after it
+
+abbrev start : tie.After-note → tie.Start
+start c = c .before .before .before .before .before
+
+abbrev noted : tie.After-product-listed → tie.After-note
+noted c = c .before .before .before .before .before
+
+abbrev product-made : tie.After-response-words → tie.After-product-listed
+product-made c = c .before .before .before .before .before
+
+abbrev words-read : tie.After-add-product → tie.After-response-words
+words-read c = c .before .before .before .before
+
+-- ** What the code asks for
+
 note-requires : tie.Need-note-requires
 note-requires c κs = search needs
 
@@ -41,11 +57,16 @@ response-words-requires c κs = search needs
 
 add-product-requires : tie.Need-add-product-requires
 add-product-requires c κs =
-    let s = c .before .before .before .before .before .before .before .before .before .before .before .before .before .before .before .before .before .before in
+    let p = product-made (c .before .before .before) in
+    let s = start (noted p) in
     let a = s .args in
-    let made = c .before .before .before .before .before .before .before .before .product-listed .ensures .1 .0 in
-    let size = ap length made ∙ length-product (a .key .now) (a .degree) (a .challenge .now) in
-    (s .pre .1 .1 ∙ sym size, omega (arith, size, s .pre .0 .degree), s .pre .1 .2, ap (allWithin outputBound) made ∙ product-within (a .key .now) (a .degree) (s .pre .0 .small) (a .challenge .now) (s .pre .0 .few))
+    let made = p .product-listed .ensures .1 .0 in
+    let size = ap length made ∙ length-product (a .key .now) (a .degree) (a .challenge .now) in (
+      s .pre .1 .1 ∙ sym size,
+      omega (arith, size, s .pre .0 .degree),
+      s .pre .1 .2,
+      ap (allWithin outputBound) made ∙ product-within (a .key .now) (a .degree) (s .pre .0 .small) (a .challenge .now) (s .pre .0 .few),
+    )
 
 same-length : tie.Need-same-length
 same-length c = search needs
@@ -62,8 +83,9 @@ inner-small c =
 inner-fits : (c : tie.After-add-product) → SFits w64 (c .add-product .result .inner)
 inner-fits c = fits-of-abs (omega (arith, inner-small c))
 
-measures : (y sc z : List ℤ) (first second third : ℕ) (words : List ℕ) (squares norm : ℕ) (inner : ℤ) → z ≡ sc → first ≡ getD words 0 0 → second ≡ getD words 1 0 → third ≡ getD words 2 0 → squares ≡ squareSum sc
-    → norm ≡ squareSum (responseOf (subtracts first) y z) → inner ≡ innerProduct (responseOf (subtracts first) y z) z
+measures : (y sc z : List ℤ) (first second third : ℕ) (words : List ℕ) (squares norm : ℕ) (inner : ℤ)
+    → z ≡ sc → first ≡ getD words 0 0 → second ≡ getD words 1 0 → third ≡ getD words 2 0
+    → squares ≡ squareSum sc → norm ≡ squareSum (responseOf (subtracts first) y z) → inner ≡ innerProduct (responseOf (subtracts first) y z) z
     → record { squares = squares; norm = norm; inner = inner; second = second; third = third } ≡ measuresOf y sc words
 unfolding measuresOf responseZ
 measures y sc z first second third words squares norm inner ez e₀ e₁ e₂ es en ei = rw (es, en, ei, ez, e₀, e₁, e₂)
@@ -72,24 +94,31 @@ response : (y sc z : List ℤ) (first : ℕ) (words : List ℕ) → z ≡ sc →
 unfolding responseZ
 response y sc z first words ez e₀ = rw (ez, e₀)
 
-written : (n : ℕ) (challenge l l₁ l₂ l₃ : List ℕ) → l₁ ≡ set l 0 (entry 7 n) → l₂ ≡ sets l₁ 1 (productEntries n challenge) → l₃ ≡ sets l₂ (1 + 2 * n * length challenge) (placesUp 2 0 3)
+written : (n : ℕ) (challenge l l₁ l₂ l₃ : List ℕ) → l₁ ≡ set l 0 (entry 7 n) → l₂ ≡ sets l₁ 1 (productEntries n challenge)
+    → l₃ ≡ sets l₂ (1 + 2 * n * length challenge) (placesUp 2 0 3)
     → l₃ ≡ sets l 0 (entry 7 n ∷ (productEntries n challenge ++ placesUp 2 0 3))
 written n challenge l l₁ l₂ l₃ e₁ e₂ e₃ =
     let es = productEntries n challenge in
     let words = placesUp 2 0 3 in
-    written-behind l 0 1 (entry 7 n ∷ []) (es ++ words) e₁ (written-behind l₁ 1 (1 + 2 * n * length challenge) es words e₂ e₃ (omega (arith, length-productEntries n challenge))) refl
+    written-behind l 0 1 (entry 7 n ∷ []) (es ++ words) e₁
+    (written-behind l₁ 1 (1 + 2 * n * length challenge) es words e₂ e₃ (omega (arith, length-productEntries n challenge))) refl
 
 returns : tie.Need-returns
 returns c =
-    let sums = c .before .before .add-product .ensures in
-    let w = c .before .before .before .before .before .before .response-words .ensures in
-    let p = c .before .before .before .before .before .before .before .before .before .before .before .product-listed .ensures in
-    let note = c .before .before .before .before .before .before .before .before .before .before .before .before .before .before .before .before .note .ensures in
-    let a = c .before .before .before .before .before .before .before .before .before .before .before .before .before .before .before .before .before .before .before .before .before .args in (
-      measures (a .y .now) (product (a .key .now) (a .degree) (a .challenge .now)) _ _ _ _ (a .words .now) _ _ _ (p .1 .0) (w .0) (w .1) (w .2) (p .0) (sums .0 .0) (read-back (inner-fits (c .before .before)) ∙ sums .0 .1),
+    let added = c .before .before in
+    let w = words-read added in
+    let p = product-made w in
+    let n = noted p in
+    let a = start n .args in
+    let sc = product (a .key .now) (a .degree) (a .challenge .now) in
+    let sums = added .add-product .ensures in
+    let words = w .response-words .ensures in
+    let made = p .product-listed .ensures in
+    let inner = read-back (inner-fits added) ∙ sums .0 .1 in (
+      measures (a .y .now) sc _ _ _ _ (a .words .now) _ _ _ (made .1 .0) (words .0) (words .1) (words .2) (made .0) (sums .0 .0) inner,
       (
-        sums .1 ∙ response (a .y .now) (product (a .key .now) (a .degree) (a .challenge .now)) _ _ (a .words .now) (p .1 .0) (w .0),
-        written (a .degree) (a .challenge .now) (a .list .now) _ _ _ note (p .1 .1) (w .3),
+        sums .1 ∙ response (a .y .now) sc _ _ (a .words .now) (made .1 .0) (words .0),
+        written (a .degree) (a .challenge .now) (a .list .now) _ _ _ (n .note .ensures) (made .1 .1) (words .3),
       ),
     )
 

@@ -11,9 +11,20 @@ use Rattle.response.proofs.response_words.Statement.{statement}
 use Rattle.response.proofs.response_words.Tie as tie
 
 -- three entries, one after the other
-three : (l l₁ l₂ l₃ : List ℕ) (at : ℕ) → l₁ ≡ set l at (entry 2 0) → l₂ ≡ set l₁ (at + 1) (entry 2 1) → l₃ ≡ set l₂ (at + 2) (entry 2 2) → l₃ ≡ sets l at (placesUp 2 0 3)
+three : (l l₁ l₂ l₃ : List ℕ) (at : ℕ) → l₁ ≡ set l at (entry 2 0) → l₂ ≡ set l₁ (at + 1) (entry 2 1) → l₃ ≡ set l₂ (at + 2) (entry 2 2)
+    → l₃ ≡ sets l at (placesUp 2 0 3)
 unfolding placesUp
 three l l₁ l₂ l₃ at e₁ e₂ e₃ = placesUp-more 2 0 2 l at (placesUp-more 2 0 1 l at e₁ e₂ refl refl) e₃ refl refl
+
+-- ** The states, each from the one after it
+
+abbrev first-read : tie.After-listed-word2 → tie.After-listed-word
+first-read c = c .before .before .before .before
+
+abbrev second-read : tie.After-listed-word3 → tie.After-listed-word2
+second-read c = c .before .before .before .before
+
+-- ** What the code asks for
 
 listed-word-requires : tie.Need-listed-word-requires
 listed-word-requires c κs = search needs
@@ -35,10 +46,14 @@ same-length c = search needs
 
 returns : tie.Need-returns
 returns c =
-    let third = c .before .before .listed-word3 in
-    let second = c .before .before .before .before .before .before .listed-word2 in
-    let first = c .before .before .before .before .before .before .before .before .before .before .listed-word in
-    (first .ensures .0, second .ensures .0, third .ensures .0, three _ _ _ _ _ (first .ensures .1) (second .ensures .1) (third .ensures .1))
+    let third = c .before .before in
+    let second = second-read third in
+    let first = first-read second .listed-word .ensures in (
+      first .0,
+      second .listed-word2 .ensures .0,
+      third .listed-word3 .ensures .0,
+      three _ _ _ _ _ (first .1) (second .listed-word2 .ensures .1) (third .listed-word3 .ensures .1),
+    )
 
 pub response-words-spec : {M : Type 1} → statement M
 response-words-spec =
