@@ -1,4 +1,4 @@
--- The bit of a response of document 01, from what it hangs on. Assumes nothing.
+-- The bit of a response of document 01, from what it depends on. Assumes nothing.
 use mathlib.Core.Bool.{Bool, _&&_}
 use mathlib.Core.List.{List, [], _∷_, _++_}
 use Prim.Native.Nat.{ℕ, _+_, _-_, _*_, _/_, _^_, min}
@@ -31,7 +31,11 @@ coshPasses e word = ltb (low62Of word * (2 ^ 62 + e * e / 2 ^ 62)) (e * 2 ^ 63)
 
 -- the four tests, by e(N1) and e(N2): A and Z are within their limits, and the second and the third word pass
 unfoldable pub allPass : (m : Measures) (e₁ e₂ : ℕ) → Bool
-allPass m e₁ e₂ = leb (m .squares) squaresLimit && (leb (m .norm) normLimit && (ltb (low62Of (m .second)) e₁ && coshPasses e₂ (m .third)))
+allPass m e₁ e₂ =
+    leb (m .squares) squaresLimit
+    && (leb (m .norm) normLimit
+    && (ltb (low62Of (m .second)) e₁
+    && coshPasses e₂ (m .third)))
 
 -- the bit
 unfoldable pub acceptsBy : (e : ℕ → ℕ) (m : Measures) → Bool

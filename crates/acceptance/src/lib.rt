@@ -22,7 +22,7 @@ pub const ENTRIES: usize = BIT_AT + 1;
 
 const TWO_63: u64 = 2 * arithmetic::TWO_62;
 
-// What the bit of a response hangs on: the sums A, Z and I, and two words.
+// What the bit of a response depends on: the sums A, Z and I, and two words.
 pub struct Measures {
     pub squares: u64,
     pub norm: u64,
@@ -54,7 +54,10 @@ fn all_pass(m: Measures, e1: u64, e2: u64) -> bool
 
 // The bit of a response. Both exponentials are always worked out. Their reads and the bit are listed from the index `at` of a list on.
 pub fn judged(table: &[u64], reciprocal: u64, m: Measures, list: &mut [u32], at: usize) -> bool
-    requires { ⌜ (now table ≡ polynomial) × (limit * reciprocal < 2 ^ 84) × (natAbs (m .inner) < 2 ^ 60) × (at + 43 ≤ length (now list)) ⌝ }
+    requires { ⌜ (now table ≡ polynomial)
+        × (limit * reciprocal < 2 ^ 84)
+        × (natAbs (m .inner) < 2 ^ 60)
+        × (at + 43 ≤ length (now list)) ⌝ }
     ensures { λ r. ⌜ r ≡ acceptsBy (expScaled (now (table .entry)) reciprocal) m ⌝ }
     ensures { λ r. ⌜ now (list .exit) ≡ sets (now (list .entry)) at (acceptanceEntries r) ⌝ }
 {

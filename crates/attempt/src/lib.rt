@@ -34,7 +34,11 @@ pub struct AttemptWords {
 // The words of an attempt from a place on, listed from the index `at` of a list on.
 fn attempt_words(words: &[u64], place: usize, list: &mut [u32], at: usize) -> AttemptWords
     requires { ⌜ (place + 4 ≤ length (now words)) × (place + 4 ≤ 2 ^ 24) × (at + 4 ≤ length (now list)) ⌝ }
-    ensures { λ r. ⌜ (r .draw .high ≡ low62Of (getD (now (words .entry)) place 0)) × (r .draw .low ≡ low62Of (getD (now (words .entry)) (place + 1) 0)) × (r .third ≡ getD (now (words .entry)) (place + 2) 0) × (r .fourth ≡ getD (now (words .entry)) (place + 3) 0) × (now (list .exit) ≡ sets (now (list .entry)) at (placesUp 2 place 4)) ⌝ }
+    ensures { λ r. ⌜ (r .draw .high ≡ low62Of (getD (now (words .entry)) place 0))
+        × (r .draw .low ≡ low62Of (getD (now (words .entry)) (place + 1) 0))
+        × (r .third ≡ getD (now (words .entry)) (place + 2) 0)
+        × (r .fourth ≡ getD (now (words .entry)) (place + 3) 0)
+        × (now (list .exit) ≡ sets (now (list .entry)) at (placesUp 2 place 4)) ⌝ }
 {
     let first = read_list::listed_word(words, read_list::WORD, place, list, at);
     let second = read_list::listed_word(words, read_list::WORD, place + 1, list, at + 1);
@@ -87,7 +91,12 @@ pub fn attempt(
     at: usize,
 ) -> bool
     requires { ⌜ Tables (now cdt) (now table) reciprocal ⌝ }
-    requires { ⌜ (t < 2 ^ 20) × (4 * t + 4 ≤ length (now words)) × (k < length (now y)) × (k < 2 ^ 24) × (at + 46 ≤ length (now list)) × (at < 2 ^ 32) ⌝ }
+    requires { ⌜ (t < 2 ^ 20)
+        × (4 * t + 4 ≤ length (now words))
+        × (k < length (now y))
+        × (k < 2 ^ 24)
+        × (at + 46 ≤ length (now list))
+        × (at < 2 ^ 32) ⌝ }
     ensures { λ r. ⌜ r ≡ bitAt (expScaled (now (table .entry)) reciprocal) (now (cdt .entry)) (now (words .entry)) t ⌝ }
     ensures { λ _. ⌜ now (y .exit) ≡ set (now (y .entry)) k (sampleAt (now (cdt .entry)) (now (words .entry)) t) ⌝ }
     ensures { λ _. ⌜ now (list .exit) ≡ sets (now (list .entry)) at (attemptEntries t k) ⌝ }

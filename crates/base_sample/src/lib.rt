@@ -73,8 +73,13 @@ fn threshold_at(cdt: &[u64], i: usize) -> Wide62
 
 // The base sample of a draw. All twenty words are read, in order, and listed from the index `at` of a list on.
 pub fn scan(cdt: &[u64], draw: Wide62, list: &mut [u32], at: usize) -> u64
-    requires { ⌜ (length (now cdt) ≡ 20) × (wordsSmall (now cdt) ≡ true) × (draw .low < 2 ^ 62) × (at + 20 ≤ length (now list)) ⌝ }
-    ensures { λ r. ⌜ (r ≡ baseSample (now (cdt .entry)) (value62 draw)) × (r ≤ 10) × (now (list .exit) ≡ sets (now (list .entry)) at (placesUp 3 0 20)) ⌝ }
+    requires { ⌜ (length (now cdt) ≡ 20)
+        × (wordsSmall (now cdt) ≡ true)
+        × (draw .low < 2 ^ 62)
+        × (at + 20 ≤ length (now list)) ⌝ }
+    ensures { λ r. ⌜ (r ≡ baseSample (now (cdt .entry)) (value62 draw))
+        × (r ≤ 10)
+        × (now (list .exit) ≡ sets (now (list .entry)) at (placesUp 3 0 20)) ⌝ }
 {
     let mut x: u64 = 0;
     let mut i: usize = 0;

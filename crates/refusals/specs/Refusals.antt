@@ -45,7 +45,8 @@ unfoldable pub noiseRefusal : (drawn : Bool) (key y : List ℤ) → ℕ
 noiseRefusal drawn key y = firstRefusal (noiseTests drawn key y)
 
 -- responding; of the words, z and the list it looks at the lengths alone
-abbrev pub respondTests : (n : ℕ) (drawn : Bool) (challenge polynomial : List ℕ) (words : ℕ) (key y : List ℤ) (z list : ℕ) → List Line
+abbrev pub respondTests : (n : ℕ) (drawn : Bool) (challenge polynomial : List ℕ) (words : ℕ) (key y : List ℤ) (z list : ℕ)
+    → List Line
 respondTests n drawn challenge polynomial words key y z list =
     line 1 (isDegree n)
     ∷ line 2 (eqb (length polynomial) 21 && (eqb (length y) (2 * n) && (eqb z (2 * n) && eqb (length key) (2 * n))))
@@ -55,6 +56,7 @@ respondTests n drawn challenge polynomial words key y z list =
     ∷ line 8 (leb (respondListLength n (length challenge)) list)
     ∷ noiseTests drawn key y
 
-unfoldable pub respondRefusal : (n : ℕ) (drawn : Bool) (challenge polynomial : List ℕ) (words : ℕ) (key y : List ℤ) (z list : ℕ) → ℕ
+unfoldable pub respondRefusal : (n : ℕ) (drawn : Bool) (challenge polynomial : List ℕ) (words : ℕ) (key y : List ℤ) (z list : ℕ)
+    → ℕ
 respondRefusal n drawn challenge polynomial words key y z list =
     firstRefusal (respondTests n drawn challenge polynomial words key y z list)

@@ -55,7 +55,8 @@ pub fn respond_refusal(
     z: usize,
     list: usize,
 ) -> u32
-    ensures { λ r. ⌜ r ≡ respondRefusal n drawn (now (challenge .entry)) (now (polynomial .entry)) words (now (key .entry)) (now (y .entry)) z list ⌝ }
+    ensures { λ r. ⌜ r
+        ≡ respondRefusal n drawn (now (challenge .entry)) (now (polynomial .entry)) words (now (key .entry)) (now (y .entry)) z list ⌝ }
 {
     if !checks::is_degree(n) {
         return refused::DEGREE;
@@ -84,8 +85,8 @@ pub fn respond_refusal(
     noise_refusal(drawn, key, y)
 }
 
-// The first of refusals 9 to 11 that applies, or 0. Key and y are looked at whole, and whether y is small is joined with whether the key is:
-// a branch on y alone would tell of y where the key is refused.
+// The first of refusals 9 to 11 that applies, or 0. Key and y are looked at whole, and whether y is small is joined with whether the key
+// is: a branch on y alone would tell of y where the key is refused.
 fn noise_refusal(drawn: bool, key: &[i32], y: &[i32]) -> u32
     ensures { λ r. ⌜ r ≡ noiseRefusal drawn (now (key .entry)) (now (y .entry)) ⌝ }
 {

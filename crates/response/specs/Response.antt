@@ -38,7 +38,7 @@ responseZ y sc words = responseOf (subtracts (getD words 0 0)) y sc
 
 -- ** Its bit
 
--- what it hangs on: A is the sum of squares of Sc, Z that of z, I the sum of products of z and Sc; and the second and the third word
+-- what it depends on: A is the sum of squares of Sc, Z that of z, I the sum of products of z and Sc; and the second and the third word
 unfoldable pub measuresOf : (y sc : List ℤ) (words : List ℕ) → Measures
 measuresOf y sc words = let z = responseZ y sc words in
     record { squares = squareSum sc; norm = squareSum z; inner = innerProduct z sc; second = getD words 1 0; third = getD words 2 0 }

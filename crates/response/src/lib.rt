@@ -11,7 +11,8 @@ ghost use Rattle.read_list.specs.Entries.{entry, placesUp};
 ghost use Rattle.signed.specs.Vectors.{allWithin, squareSum, innerProduct};
 ghost use Rattle.exponential.specs.Exponential.{polynomial, expScaled, limit};
 ghost use Rattle.challenge.specs.Product.{outputBound, product, Factors, productEntries};
-ghost use Rattle.response.specs.Response.{noiseBound, responseBound, subtracts, responseOf, measuresOf, responseZ, responseBit, respondListLength, respondedBy};
+ghost use Rattle.response.specs.Response.{noiseBound, responseBound, subtracts, responseOf, measuresOf, responseZ, responseBit};
+ghost use Rattle.response.specs.Response.{respondListLength, respondedBy};
 use acceptance::Measures;
 
 // The largest size of a value of y.
@@ -47,7 +48,10 @@ pub struct Sums {
 // The words of a response, listed from the index `at` of a list on.
 fn response_words(words: &[u64], list: &mut [u32], at: usize) -> ResponseWords
     requires { ⌜ (3 ≤ length (now words)) × (at + 3 ≤ length (now list)) ⌝ }
-    ensures { λ r. ⌜ (r .first ≡ getD (now (words .entry)) 0 0) × (r .second ≡ getD (now (words .entry)) 1 0) × (r .third ≡ getD (now (words .entry)) 2 0) × (now (list .exit) ≡ sets (now (list .entry)) at (placesUp 2 0 3)) ⌝ }
+    ensures { λ r. ⌜ (r .first ≡ getD (now (words .entry)) 0 0)
+        × (r .second ≡ getD (now (words .entry)) 1 0)
+        × (r .third ≡ getD (now (words .entry)) 2 0)
+        × (now (list .exit) ≡ sets (now (list .entry)) at (placesUp 2 0 3)) ⌝ }
 {
     let first = read_list::listed_word(words, read_list::WORD, 0, list, at);
     let second = read_list::listed_word(words, read_list::WORD, 1, list, at + 1);
@@ -69,8 +73,12 @@ fn response_at(y: i32, sc: i32, sign: i32) -> i32
 
 // Makes z the response, in place: it holds the challenge product before. The sign is by bit 0 of a word.
 fn add_product(word: u64, y: &[i32], z: &mut [i32]) -> Sums
-    requires { ⌜ (length (now y) ≡ length (now z)) × (length (now z) ≤ 2048) × (allWithin noiseBound (now y) ≡ true) × (allWithin outputBound (now z) ≡ true) ⌝ }
-    ensures { λ r. ⌜ (r .norm ≡ squareSum (responseOf (subtracts word) (now (y .entry)) (now (z .entry)))) × (r .inner ≡ innerProduct (responseOf (subtracts word) (now (y .entry)) (now (z .entry))) (now (z .entry))) ⌝ }
+    requires { ⌜ (length (now y) ≡ length (now z))
+        × (length (now z) ≤ 2048)
+        × (allWithin noiseBound (now y) ≡ true)
+        × (allWithin outputBound (now z) ≡ true) ⌝ }
+    ensures { λ r. ⌜ (r .norm ≡ squareSum (responseOf (subtracts word) (now (y .entry)) (now (z .entry))))
+        × (r .inner ≡ innerProduct (responseOf (subtracts word) (now (y .entry)) (now (z .entry))) (now (z .entry))) ⌝ }
     ensures { λ _. ⌜ now (z .exit) ≡ responseOf (subtracts word) (now (y .entry)) (now (z .entry)) ⌝ }
 {
     let sign = signed::sign_of(arithmetic::bit0(word));
@@ -100,10 +108,17 @@ fn measured(
     list: &mut [u32],
 ) -> Measures
     requires { ⌜ Factors (now key) degree (now challenge) ⌝ }
-    requires { ⌜ (3 ≤ length (now words)) × (length (now y) ≡ 2 * degree) × (allWithin noiseBound (now y) ≡ true) × (length (now z) ≡ 2 * degree) × (2 * degree * length (now challenge) + 4 ≤ length (now list)) ⌝ }
-    ensures { λ r. ⌜ r ≡ measuresOf (now (y .entry)) (product (now (key .entry)) degree (now (challenge .entry))) (now (words .entry)) ⌝ }
-    ensures { λ _. ⌜ now (z .exit) ≡ responseZ (now (y .entry)) (product (now (key .entry)) degree (now (challenge .entry))) (now (words .entry)) ⌝ }
-    ensures { λ _. ⌜ now (list .exit) ≡ sets (now (list .entry)) 0 (entry 7 degree ∷ (productEntries degree (now (challenge .entry)) ++ placesUp 2 0 3)) ⌝ }
+    requires { ⌜ (3 ≤ length (now words))
+        × (length (now y) ≡ 2 * degree)
+        × (allWithin noiseBound (now y) ≡ true)
+        × (length (now z) ≡ 2 * degree)
+        × (2 * degree * length (now challenge) + 4 ≤ length (now list)) ⌝ }
+    ensures { λ r. ⌜ r
+        ≡ measuresOf (now (y .entry)) (product (now (key .entry)) degree (now (challenge .entry))) (now (words .entry)) ⌝ }
+    ensures { λ _. ⌜ now (z .exit)
+        ≡ responseZ (now (y .entry)) (product (now (key .entry)) degree (now (challenge .entry))) (now (words .entry)) ⌝ }
+    ensures { λ _. ⌜ now (list .exit)
+        ≡ sets (now (list .entry)) 0 (entry 7 degree ∷ (productEntries degree (now (challenge .entry)) ++ placesUp 2 0 3)) ⌝ }
 {
     read_list::note(read_list::RESPONSE, degree, list, 0);
     let squares = challenge::product_listed(key, degree, challenge, z, list, KEY_AT);
@@ -133,8 +148,20 @@ pub fn respond(
     list: &mut [u32],
 ) -> Answer
     requires { ⌜ Factors (now key) degree (now challenge) ⌝ }
-    requires { ⌜ (now table ≡ polynomial) × (limit * reciprocal < 2 ^ 84) × (3 ≤ length (now words)) × (length (now y) ≡ 2 * degree) × (allWithin noiseBound (now y) ≡ true) × (length (now z) ≡ 2 * degree) × (respondListLength degree (length (now challenge)) ≤ length (now list)) ⌝ }
-    ensures { λ r. ⌜ record { answer = r; y = now (y .exit); z = now (z .exit); list = now (list .exit) } ≡ respondedBy degree (responseBit (expScaled (now (table .entry)) reciprocal) (now (y .entry)) (product (now (key .entry)) degree (now (challenge .entry))) (now (words .entry))) (now (challenge .entry)) (responseZ (now (y .entry)) (product (now (key .entry)) degree (now (challenge .entry))) (now (words .entry))) (now (list .entry)) ⌝ }
+    requires { ⌜ (now table ≡ polynomial)
+        × (limit * reciprocal < 2 ^ 84)
+        × (3 ≤ length (now words))
+        × (length (now y) ≡ 2 * degree)
+        × (allWithin noiseBound (now y) ≡ true)
+        × (length (now z) ≡ 2 * degree)
+        × (respondListLength degree (length (now challenge)) ≤ length (now list)) ⌝ }
+    ensures { λ r. ⌜ record { answer = r; y = now (y .exit); z = now (z .exit); list = now (list .exit) }
+        ≡ respondedBy degree
+        (responseBit (expScaled (now (table .entry)) reciprocal) (now (y .entry))
+        (product (now (key .entry)) degree (now (challenge .entry))) (now (words .entry)))
+        (now (challenge .entry))
+        (responseZ (now (y .entry)) (product (now (key .entry)) degree (now (challenge .entry))) (now (words .entry)))
+        (now (list .entry)) ⌝ }
 {
     let m = measured(degree, challenge, words, key, y, z, list);
     let at = KEY_AT + 2 * degree * challenge.len() + WORDS;
