@@ -3,10 +3,10 @@
 use bliss_box::{Counts, Refusal, Session};
 
 use super::exponential::exponential;
-use super::low_62;
 use super::product::Product;
 use super::read_list::{entry, list_places, list_polynomial};
 use super::refusals::check_draw;
+use super::words::{low_62, threshold, two_words};
 
 /// The entries of an attempt.
 const ATTEMPT_ENTRIES: usize = 46;
@@ -64,13 +64,4 @@ fn attempt<P: Product>(cdt: &[u64; 20], polynomial: &[u64; 21], words: &[u64]) -
     let e = exponential::<P>(b * (b + 512 * x), polynomial);
     let accepted = (low_62(words[3]) < e) & !((size == 0) & negative);
     (if negative { -(size as i32) } else { size as i32 }, accepted)
-}
-
-/// The value of a threshold's two words.
-pub fn threshold(words: &[u64]) -> u128 {
-    two_words(words[0], words[1])
-}
-
-fn two_words(high: u64, low: u64) -> u128 {
-    u128::from(high) << 62 | u128::from(low)
 }

@@ -3,10 +3,10 @@
 use bliss_box::{Outcome, Refusal, Session};
 
 use super::exponential::{exponential, LIMIT};
-use super::low_62;
 use super::product::Product;
 use super::read_list::{entry, list_places, list_polynomial};
 use super::refusals::check_respond;
+use super::words::low_62;
 
 /// The most that A may be.
 const SQUARES_LIMIT: u64 = 46_225;
