@@ -102,6 +102,24 @@ BLISS_LAYOUT(sizeof(bliss_responded) == 32 && offsetof(bliss_responded, session)
 #define BLISS_RESPOND_WORDS 3
 #define BLISS_RESPOND_ENTRIES(n, positions) (2 * (size_t)(n) * (size_t)(positions) + 47)
 
+/* The kinds of entries in a read list, by what the place of an entry is. */
+enum {
+    BLISS_KIND_DRAW = 1,            /* the degree of a draw: its first entry */
+    BLISS_KIND_WORD = 2,            /* the place of a word that is read */
+    BLISS_KIND_CDT = 3,             /* the place of a CDT word that is read */
+    BLISS_KIND_POLYNOMIAL = 4,      /* the place of an entry of the polynomial table that is read */
+    BLISS_KIND_ACCEPTED_BEFORE = 5, /* the samples accepted before an attempt: its last entry */
+    BLISS_KIND_ACCEPTED = 6,        /* the samples accepted in all: a draw's last entry */
+    BLISS_KIND_RESPONSE = 7,        /* the degree of a response: its first entry */
+    BLISS_KIND_KEY = 8,             /* the place of a key value that is read */
+    BLISS_KIND_BIT = 9              /* the bit of a response: its last entry */
+};
+
+/* An entry is kind * 2^24 + place. */
+#define BLISS_ENTRY(kind, place) ((uint32_t)(kind) << 24 | (uint32_t)(place))
+#define BLISS_ENTRY_KIND(entry) ((uint32_t)(entry) >> 24)
+#define BLISS_ENTRY_PLACE(entry) ((uint32_t)(entry) & 0xffffff)
+
 /* Opens a session of degree n.
  * Gives: a session with nothing drawn; refused, one of degree 0.
  * Refuses: 1. */
