@@ -132,7 +132,8 @@ bliss_opened bliss_open(size_t n);
  *          read of cdt, polynomial and words is listed from the start of the list; bliss_filled gives the filled part.
  * Refuses: 1, 2, 3, 4, 5, 7, 8, in this order.
  * Leaves:  the list behind the entries, the tables and the words; refused, everything.
- * Time:    no jump and no address hangs on a word or a sample, except by the accept bits of the attempts, which the list shows.
+ * Time:    no jump and no address depends on a word or a sample, except by the accept bits of the attempts, which the list
+ *          shows.
  * The words must be fresh random words, used for this draw alone. */
 bliss_drawn bliss_draw(bliss_session session, size_t limit,                  //
                        const uint64_t *cdt, size_t cdt_length,               //
@@ -150,8 +151,8 @@ bliss_drawn bliss_draw(bliss_session session, size_t limit,                  //
  *          and last the bit; bliss_filled gives the filled part.
  * Refuses: 1, 2, 4, 6, 7, 8, 9, 10, 11, in this order.
  * Leaves:  the list behind the entries, the challenge, the polynomial, the words and the key; refused, everything.
- * Time:    no jump and no address hangs on words, key, y or z, except by the response's bit, which the list shows, and by refusals
- *          10 and 11. The challenge shows, that of a rejection too.
+ * Time:    no jump and no address depends on words, key, y or z, except by the response's bit, which the list shows, and by
+ *          refusals 10 and 11. The challenge shows, that of a rejection too.
  * The words must be fresh random words, used for this response alone. */
 bliss_responded bliss_respond(bliss_session session,                                //
                               const uint32_t *challenge, size_t challenge_length,   //
@@ -176,7 +177,7 @@ size_t bliss_filled(const uint32_t *list, size_t list_length, size_t count);
  * Gives:   e(n) for n from 0 to BLISS_EXPONENTIAL_LIMIT, within 1024 units of the 64th power of the sum over j = 0..20 of
  *          (-n / 5916800)^j / j!.
  * Refuses: any other n, by BLISS_EXPONENTIAL_REFUSED.
- * Time:    apart from the test of the limit, no jump and no address hangs on n. */
+ * Time:    apart from the test of the limit, no jump and no address depends on n. */
 uint64_t bliss_exponential(uint64_t n);
 
 /* The polynomial table: entry j is the whole part of 2^62 / j!. */
