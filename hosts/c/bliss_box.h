@@ -102,6 +102,24 @@ BLISS_LAYOUT(sizeof(bliss_responded) == 32 && offsetof(bliss_responded, session)
 #define BLISS_RESPOND_WORDS 3
 #define BLISS_RESPOND_ENTRIES(n, positions) (2 * (size_t)(n) * (size_t)(positions) + 47)
 
+/* The kinds of entries in a read list, by what the place of an entry is. */
+enum {
+    BLISS_KIND_DRAW = 1,            /* the degree of a draw: its first entry */
+    BLISS_KIND_WORD = 2,            /* the place of a word that is read */
+    BLISS_KIND_CDT = 3,             /* the place of a CDT word that is read */
+    BLISS_KIND_POLYNOMIAL = 4,      /* the place of an entry of the polynomial table that is read */
+    BLISS_KIND_ACCEPTED_BEFORE = 5, /* the samples accepted before an attempt: its last entry */
+    BLISS_KIND_ACCEPTED = 6,        /* the samples accepted in all: a draw's last entry */
+    BLISS_KIND_RESPONSE = 7,        /* the degree of a response: its first entry */
+    BLISS_KIND_KEY = 8,             /* the place of a key value that is read */
+    BLISS_KIND_BIT = 9              /* the bit of a response: its last entry */
+};
+
+/* An entry is kind * 2^24 + place. */
+#define BLISS_ENTRY(kind, place) ((uint32_t)(kind) << 24 | (uint32_t)(place))
+#define BLISS_ENTRY_KIND(entry) ((uint32_t)(entry) >> 24)
+#define BLISS_ENTRY_PLACE(entry) ((uint32_t)(entry) & 0xffffff)
+
 /* Opens a session of degree n.
  * Gives: a session with nothing drawn; refused, one of degree 0.
  * Refuses: 1. */
@@ -114,7 +132,8 @@ bliss_opened bliss_open(size_t n);
  *          read of cdt, polynomial and words is listed from the start of the list; bliss_filled gives the filled part.
  * Refuses: 1, 2, 3, 4, 5, 7, 8, in this order.
  * Leaves:  the list behind the entries, the tables and the words; refused, everything.
- * Time:    no jump and no address hangs on a word or a sample, except by the accept bits of the attempts, which the list shows.
+ * Time:    no jump and no address depends on a word or a sample, except by the accept bits of the attempts, which the list
+ *          shows.
  * The words must be fresh random words, used for this draw alone. */
 bliss_drawn bliss_draw(bliss_session session, size_t limit,                  //
                        const uint64_t *cdt, size_t cdt_length,               //
@@ -132,8 +151,8 @@ bliss_drawn bliss_draw(bliss_session session, size_t limit,                  //
  *          and last the bit; bliss_filled gives the filled part.
  * Refuses: 1, 2, 4, 6, 7, 8, 9, 10, 11, in this order.
  * Leaves:  the list behind the entries, the challenge, the polynomial, the words and the key; refused, everything.
- * Time:    no jump and no address hangs on words, key, y or z, except by the response's bit, which the list shows, and by refusals
- *          10 and 11. The challenge shows, that of a rejection too.
+ * Time:    no jump and no address depends on words, key, y or z, except by the response's bit, which the list shows, and by
+ *          refusals 10 and 11. The challenge shows, that of a rejection too.
  * The words must be fresh random words, used for this response alone. */
 bliss_responded bliss_respond(bliss_session session,                                //
                               const uint32_t *challenge, size_t challenge_length,   //
@@ -158,7 +177,7 @@ size_t bliss_filled(const uint32_t *list, size_t list_length, size_t count);
  * Gives:   e(n) for n from 0 to BLISS_EXPONENTIAL_LIMIT, within 1024 units of the 64th power of the sum over j = 0..20 of
  *          (-n / 5916800)^j / j!.
  * Refuses: any other n, by BLISS_EXPONENTIAL_REFUSED.
- * Time:    apart from the test of the limit, no jump and no address hangs on n. */
+ * Time:    apart from the test of the limit, no jump and no address depends on n. */
 uint64_t bliss_exponential(uint64_t n);
 
 /* The polynomial table: entry j is the whole part of 2^62 / j!. */

@@ -177,8 +177,8 @@ static void print_response(const struct buffers *b, bliss_respond_answer answer)
     uint32_t first = b->respond_list[0];
     uint32_t last = b->respond_list[filled - 1];
 
-    printf("read list of the response: %zu entries, from (%u, %u) to (%u, %u)\n", filled, first >> 24, first & 0xffffff,
-           last >> 24, last & 0xffffff);
+    printf("read list of the response: %zu entries, from (%u, %u) to (%u, %u)\n", filled, BLISS_ENTRY_KIND(first),
+           BLISS_ENTRY_PLACE(first), BLISS_ENTRY_KIND(last), BLISS_ENTRY_PLACE(last));
     printf("response: ");
     for (size_t i = 0; i < 8; i++)
         printf("%d, ", b->z[i]);

@@ -1,5 +1,5 @@
-/* What the box must not do: functions with a jump or an address that hangs on a secret. A check of constant time must find those
- * that it runs. */
+/* What the box must not do: functions with a jump or an address that depends on a secret. A check of constant time must find
+ * those that it runs. */
 #ifndef LEAKS_H
 #define LEAKS_H
 
@@ -7,7 +7,7 @@
 
 #define LEAK __attribute__((noinline, unused)) static uint64_t
 
-/* The same value for every n, in a time that hangs on n. */
+/* The same value for every n, in a time that depends on n. */
 LEAK leaking_exponential(uint64_t n)
 {
     volatile uint64_t found = 0;
@@ -17,7 +17,7 @@ LEAK leaking_exponential(uint64_t n)
     return found - n % 16;
 }
 
-/* An entry of a table whose place hangs on n. */
+/* An entry of a table whose place depends on n. */
 LEAK leaking_lookup(uint64_t n)
 {
     return polynomial[n % BLISS_POLYNOMIAL_WORDS];

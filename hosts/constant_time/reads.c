@@ -10,8 +10,8 @@
 #include <string.h>
 #include <valgrind/valgrind.h>
 
-/* The kinds of entries that are reads; the list itself has none. */
-enum { LIST = 0, WORD = 2, CDT = 3, POLYNOMIAL = 4, KEY = 8 };
+/* Lent memory goes by the kind of its entries. The list has none. */
+enum { LIST = 0 };
 
 static bool as_chosen = true;
 
@@ -21,11 +21,11 @@ static bool as_chosen = true;
 static void show_lent(void)
 {
     SHOW_LENT(LIST, list);
-    SHOW_LENT(WORD, lent.draw_words);
-    SHOW_LENT(WORD, lent.response_words);
-    SHOW_LENT(CDT, cdt);
-    SHOW_LENT(POLYNOMIAL, polynomial);
-    SHOW_LENT(KEY, lent.key);
+    SHOW_LENT(BLISS_KIND_WORD, lent.draw_words);
+    SHOW_LENT(BLISS_KIND_WORD, lent.response_words);
+    SHOW_LENT(BLISS_KIND_CDT, cdt);
+    SHOW_LENT(BLISS_KIND_POLYNOMIAL, polynomial);
+    SHOW_LENT(BLISS_KIND_KEY, lent.key);
 }
 
 static void show_list(size_t entries)
@@ -82,7 +82,7 @@ static size_t entries;
 
 static void lists(size_t place)
 {
-    *(volatile uint32_t *)&list[entries++] = (uint32_t)CDT << 24 | (uint32_t)place;
+    *(volatile uint32_t *)&list[entries++] = BLISS_ENTRY(BLISS_KIND_CDT, place);
 }
 
 static void reads(size_t place)

@@ -17,6 +17,7 @@ import tempfile
 sys.dont_write_bytecode = True
 from lackey import started
 
+# The kinds of entries that are reads; the list itself has none.
 LIST, WORD, CDT, POLYNOMIAL, KEY = 0, 2, 3, 4, 8
 READS = {WORD, CDT, POLYNOMIAL, KEY}
 
@@ -42,7 +43,7 @@ class Call:
 
 
 def calls_in(trace):
-    """The calls that the program marks in its trace."""
+    """The calls that the program marks in its trace, and the kinds of memory that it says is lent."""
     lent, calls = [], []
     for line in trace:
         if line.startswith(b"**"):
@@ -55,7 +56,7 @@ def calls_in(trace):
                 calls[-1].entries = int(rest[0])
         elif calls and calls[-1].entries is None and (access := ACCESS.match(line)):
             calls[-1].access(lent, access[1], int(access[2], 16), int(access[3]))
-    return calls
+    return calls, {kind for kind, *_ in lent}
 
 
 def difference(loads, entries):
@@ -71,10 +72,10 @@ def main():
     wanted, command = sys.argv[1], sys.argv[2:]
     with tempfile.TemporaryFile() as output:
         run, trace = started(command, output)
-        calls = calls_in(trace)
+        calls, lent = calls_in(trace)
         status = run.wait()
-        if status or not calls:
-            sys.exit(f"{' '.join(command)}: status {status}, {len(calls)} calls: there is nothing to compare")
+        if status or not calls or lent != {LIST, *READS}:
+            sys.exit(f"{' '.join(command)}: status {status}, {len(calls)} calls, lent kinds {lent}: there is nothing to compare")
         output.seek(0)
         lists = [array.array("I", output.read(4 * call.entries)) for call in calls]
     differences = [difference(call.loads, entries) for call, entries in zip(calls, lists)]

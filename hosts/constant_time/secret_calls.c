@@ -1,7 +1,7 @@
 /* Calls with secrets, whose traces are compared, and which memcheck watches: `secret_calls KIND SEED`. The seed, one character,
  * gives the secrets. What is public of the calls of a kind is the same for every seed, and no jump or address of their preparation
- * hangs on the seed. Prints how many calls and attempts were made. Fails where one did not come out as it was chosen: then traces
- * would show nothing. */
+ * depends on the seed. Prints how many calls and attempts were made. Fails where one did not come out as it was chosen: then
+ * traces would show nothing. */
 #include "bliss_box.h"
 #include "draws.h"
 #include "leaks.h"
@@ -20,7 +20,7 @@ static size_t attempts;
 static bool as_chosen = true;
 static volatile uint64_t result;
 
-/* Counts a call. Memcheck takes the secrets for undefined from here on, and reports each jump and each address that hangs on
+/* Counts a call. Memcheck takes the secrets for undefined from here on, and reports each jump and each address that depends on
  * them. */
 static void begin_call(void)
 {

@@ -1,4 +1,4 @@
-/* Secrets of a seed. No jump and no address hangs on them where they are made, so that a program whose traces are compared can
+/* Secrets of a seed. No jump and no address depends on them where they are made, so that a program whose traces are compared can
  * prepare calls with them. */
 #ifndef SECRETS_H
 #define SECRETS_H

@@ -1,8 +1,8 @@
-/* Whether the time of a call hangs on its secrets, as dudect asks it: `timing [FACTOR]`. Calls with fixed and with random secrets
- * and the same public history are taken in random order and timed by the cycle counter. Welch's t says whether their mean times
- * differ: over all measurements, and over the fastest part of them, which the machine has disturbed least. The factor multiplies
- * the number of measurements. Fails only where a function that leaks is not found, or a call does not come out as it was chosen:
- * then the measurements show nothing. */
+/* Whether the time of a call depends on its secrets, as dudect asks it: `timing [FACTOR]`. Calls with fixed and with random
+ * secrets and the same public history are taken in random order and timed by the cycle counter. Welch's t says whether their mean
+ * times differ: over all measurements, and over the fastest part of them, which the machine has disturbed least. The factor
+ * multiplies the number of measurements. Fails only where a function that leaks is not found, or a call does not come out as it
+ * was chosen: then the measurements show nothing. */
 #include "bliss_box.h"
 #include "draws.h"
 #include "leaks.h"

@@ -39,11 +39,13 @@
 
 mod owned;
 pub mod raw;
+mod read_list;
 mod refusal;
 mod secret;
 mod tables;
 
 pub use owned::{OwnedDraw, OwnedResponse};
+pub use read_list::{Entry, Kind};
 pub use refusal::Refusal;
 pub use secret::Secret;
 pub use tables::{challenge_limit, draw_limit, list_length, respond_list_length, sample_count, word_count};

@@ -5,7 +5,7 @@ use crate::model::draw::{self, list_asked, words_asked, Attempt, Call};
 use crate::model::{Session, POLYNOMIAL};
 use crate::random::Random;
 
-/// The refusals of a draw, in an order in which they can be brought about: a length that hangs on the limit after the limit,
+/// The refusals of a draw, in an order in which they can be brought about: a length that depends on the limit after the limit,
 /// and the content of a table before its length.
 const REFUSALS: [u32; 7] = [5, 7, 8, 4, 3, 2, 1];
 

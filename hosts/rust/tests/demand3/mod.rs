@@ -9,13 +9,15 @@ use std::collections::hash_map::DefaultHasher;
 use std::collections::HashMap;
 use std::hash::{Hash, Hasher};
 
+use bliss_box::Kind;
+
 use crate::comparison::Comparison;
 use crate::coverage::{at_degree, at_every_degree, Coverage};
 use crate::model::respond::WORDS_ASKED;
 use crate::random::Random;
 use crate::run;
 use history::{history, neighbours, Event, History, DIFFERENCES};
-use places::{counterpart, different, listed, KEY, POLYNOMIAL, THRESHOLD, WORD};
+use places::{counterpart, different, listed};
 use steps::{calls_of, run_any, Call, Given, Step};
 
 /// The degree of a history's opening. An empty history has any opening, and may have a refused one.
@@ -183,7 +185,7 @@ pub fn what_is_not_listed_decides_nothing(comparison: &Comparison) {
 
 /// What a call and its counterpart are lent that is not listed, and differs.
 fn count_what_is_free(coverage: &mut Coverage, step: &Step, given: &Given, counterpart: &Step) {
-    let read = listed(&given.entries, WORD).len();
+    let read = listed(&given.entries, Kind::Word).len();
     let behind = |words: &[u64], others: &[u64]| read < words.len() && words[read..] != others[read..];
     match (&step.call, &counterpart.call) {
         (Call::Draw(call), Call::Draw(other)) => {
@@ -204,7 +206,7 @@ pub fn what_is_listed_can_decide(comparison: &Comparison) {
     for seed in run::seeds(40) {
         let Ran { origin, mut random, degree, steps, given, .. } = Ran::of(seed);
         for (at, step) in steps.iter().enumerate() {
-            for kind in [WORD, THRESHOLD, POLYNOMIAL, KEY] {
+            for kind in [Kind::Word, Kind::Cdt, Kind::Polynomial, Kind::Key] {
                 let places = listed(&given[at].entries, kind);
                 if !places.is_empty() {
                     let changed = [&steps[..at], &[different(&mut random, step, kind, &places)]].concat();
@@ -221,12 +223,12 @@ pub fn what_is_listed_can_decide(comparison: &Comparison) {
 
 /// Whether another value at a place of this kind changed what is seen of a call that is still served. Another polynomial table is
 /// always refused.
-fn count_decision(coverage: &mut Coverage, step: &Step, kind: u32, given: &Given, after: &Given) {
+fn count_decision(coverage: &mut Coverage, step: &Step, kind: Kind, given: &Given, after: &Given) {
     let call = match step.call {
         Call::Draw(_) => "draw",
         Call::Respond(_) => "response",
     };
     let served = after.seen.refusal == 0;
-    let decides = given.seen != after.seen && (served || kind == POLYNOMIAL);
-    coverage.see(format!("{call}: a place of kind {kind} decides"), decides);
+    let decides = given.seen != after.seen && (served || kind == Kind::Polynomial);
+    coverage.see(format!("{call}: a place of kind {} decides", kind.number()), decides);
 }

@@ -1,17 +1,13 @@
 //! Lists of calls that agree with others at the places of their read lists, or differ there at one place.
 
+use bliss_box::{Entry, Kind};
+
 use super::steps::{Call, Step};
 use crate::random::Random;
 
-/// The kinds of places that are lent: words, CDT table, polynomial table and key.
-pub const WORD: u32 = 2;
-pub const THRESHOLD: u32 = 3;
-pub const POLYNOMIAL: u32 = 4;
-pub const KEY: u32 = 8;
-
 /// The places of one kind in a call's entries.
-pub fn listed(entries: &[u32], kind: u32) -> Vec<usize> {
-    entries.iter().filter(|&&entry| entry >> 24 == kind).map(|&entry| (entry % (1 << 24)) as usize).collect()
+pub fn listed(entries: &[u32], kind: Kind) -> Vec<usize> {
+    entries.iter().map(|&entry| Entry(entry)).filter(|entry| entry.kind() == Some(kind)).map(Entry::place).collect()
 }
 
 /// Values that agree with these at the listed places, and are others elsewhere.
@@ -29,18 +25,18 @@ pub fn counterpart(random: &mut Random, step: &Step, entries: &[u32]) -> Step {
     let mut step = step.clone();
     let (words, list) = match &mut step.call {
         Call::Draw(call) => {
-            call.cdt = agreeing(&call.cdt, &listed(entries, THRESHOLD), || random.word());
-            call.polynomial = agreeing(&call.polynomial, &listed(entries, POLYNOMIAL), || random.word());
+            call.cdt = agreeing(&call.cdt, &listed(entries, Kind::Cdt), || random.word());
+            call.polynomial = agreeing(&call.polynomial, &listed(entries, Kind::Polynomial), || random.word());
             (&mut call.words, &mut call.list)
         }
         Call::Respond(call) => {
-            call.polynomial = agreeing(&call.polynomial, &listed(entries, POLYNOMIAL), || random.word());
-            call.key = agreeing(&call.key, &listed(entries, KEY), || random.word() as i32);
+            call.polynomial = agreeing(&call.polynomial, &listed(entries, Kind::Polynomial), || random.word());
+            call.key = agreeing(&call.key, &listed(entries, Kind::Key), || random.word() as i32);
             call.z.fill_with(|| random.word() as i32);
             (&mut call.words, &mut call.list)
         }
     };
-    *words = agreeing(words, &listed(entries, WORD), || random.word());
+    *words = agreeing(words, &listed(entries, Kind::Word), || random.word());
     words.extend((0..random.below(5)).map(|_| random.word()));
     list.fill_with(|| random.word() as u32);
     list.extend((0..random.below(5)).map(|_| random.word() as u32));
@@ -49,17 +45,17 @@ pub fn counterpart(random: &mut Random, step: &Step, entries: &[u32]) -> Step {
 
 /// The same call with another value at one of these places. A threshold's high word stays between those of its neighbours, and
 /// a key value in its bounds, so that few of these calls are refused.
-pub fn different(random: &mut Random, step: &Step, kind: u32, places: &[usize]) -> Step {
+pub fn different(random: &mut Random, step: &Step, kind: Kind, places: &[usize]) -> Step {
     let mut step = step.clone();
     let place = random.pick(places);
     match (&mut step.call, kind) {
-        (Call::Draw(call), WORD) => call.words[place] = random.word(),
-        (Call::Respond(call), WORD) => call.words[place] = random.word(),
-        (Call::Draw(call), THRESHOLD) => call.cdt[place] = between_neighbours(random, &call.cdt, place),
-        (Call::Draw(call), POLYNOMIAL) => call.polynomial[place] += 1,
-        (Call::Respond(call), POLYNOMIAL) => call.polynomial[place] += 1,
-        (Call::Respond(call), KEY) => call.key[place] = if call.key[place] < 7 { call.key[place] + 1 } else { -7 },
-        _ => unreachable!("no place of kind {kind} is listed"),
+        (Call::Draw(call), Kind::Word) => call.words[place] = random.word(),
+        (Call::Respond(call), Kind::Word) => call.words[place] = random.word(),
+        (Call::Draw(call), Kind::Cdt) => call.cdt[place] = between_neighbours(random, &call.cdt, place),
+        (Call::Draw(call), Kind::Polynomial) => call.polynomial[place] += 1,
+        (Call::Respond(call), Kind::Polynomial) => call.polynomial[place] += 1,
+        (Call::Respond(call), Kind::Key) => call.key[place] = if call.key[place] < 7 { call.key[place] + 1 } else { -7 },
+        _ => unreachable!("no place of kind {} is listed", kind.number()),
     }
     step
 }

@@ -1,12 +1,12 @@
 //! The draw.
 
-use bliss_box::{Counts, Refusal, Session};
+use bliss_box::{Counts, Kind, Refusal, Session};
 
 use super::exponential::exponential;
-use super::low_62;
 use super::product::Product;
 use super::read_list::{entry, list_places, list_polynomial};
 use super::refusals::check_draw;
+use super::words::{low_62, threshold, two_words};
 
 /// The entries of an attempt.
 const ATTEMPT_ENTRIES: usize = 46;
@@ -24,7 +24,7 @@ pub fn draw<P: Product>(
 ) -> Result<Counts, Refusal> {
     let n = session.degree();
     check_draw(n, limit, cdt, polynomial, words, y, list)?;
-    list[0] = entry(1, n);
+    list[0] = entry(Kind::Draw, n);
     let mut attempts = 0;
     let mut accepted = 0;
     for (words, listed) in words.chunks_exact(4).zip(list[1..].chunks_exact_mut(ATTEMPT_ENTRIES)).take(limit) {
@@ -39,7 +39,7 @@ pub fn draw<P: Product>(
         }
     }
     let entries = 1 + ATTEMPT_ENTRIES * attempts;
-    list[entries] = entry(6, accepted);
+    list[entries] = entry(Kind::Accepted, accepted);
     if accepted < y.len() {
         y.fill(0);
     }
@@ -47,10 +47,10 @@ pub fn draw<P: Product>(
 }
 
 fn list_attempt(listed: &mut [u32], t: usize, accepted: usize) {
-    list_places(&mut listed[..4], 2, 4 * t..);
-    list_places(&mut listed[4..24], 3, 0..);
+    list_places(&mut listed[..4], Kind::Word, 4 * t..);
+    list_places(&mut listed[4..24], Kind::Cdt, 0..);
     list_polynomial(&mut listed[24..45]);
-    listed[45] = entry(5, accepted);
+    listed[45] = entry(Kind::AcceptedBefore, accepted);
 }
 
 /// The sample of an attempt, and its accept bit.
@@ -64,13 +64,4 @@ fn attempt<P: Product>(cdt: &[u64; 20], polynomial: &[u64; 21], words: &[u64]) -
     let e = exponential::<P>(b * (b + 512 * x), polynomial);
     let accepted = (low_62(words[3]) < e) & !((size == 0) & negative);
     (if negative { -(size as i32) } else { size as i32 }, accepted)
-}
-
-/// The value of a threshold's two words.
-pub fn threshold(words: &[u64]) -> u128 {
-    two_words(words[0], words[1])
-}
-
-fn two_words(high: u64, low: u64) -> u128 {
-    u128::from(high) << 62 | u128::from(low)
 }

@@ -7,13 +7,9 @@ mod product;
 mod read_list;
 mod refusals;
 mod respond;
+mod words;
 
 pub use draw::draw;
 pub use exponential::{exponential_or_refusal, LIMIT};
 pub use product::{HighWord, Product, Shifted};
 pub use respond::respond;
-
-/// 62 of a word.
-fn low_62(word: u64) -> u64 {
-    word & ((1 << 62) - 1)
-}

@@ -3,7 +3,7 @@
 use bliss_box::{challenge_limit, list_length, respond_list_length, sample_count, word_count};
 use bliss_box::{Refusal, Session, POLYNOMIAL, RESPOND_WORDS};
 
-use super::draw::threshold;
+use super::words::threshold;
 
 pub fn check_draw(
     n: usize,

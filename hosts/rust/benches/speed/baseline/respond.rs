@@ -1,12 +1,12 @@
 //! The response.
 
-use bliss_box::{Outcome, Refusal, Session};
+use bliss_box::{Kind, Outcome, Refusal, Session};
 
 use super::exponential::{exponential, LIMIT};
-use super::low_62;
 use super::product::Product;
 use super::read_list::{entry, list_places, list_polynomial};
 use super::refusals::check_respond;
+use super::words::low_62;
 
 /// The most that A may be.
 const SQUARES_LIMIT: u64 = 46_225;
@@ -37,15 +37,15 @@ pub fn respond<P: Product>(
     check_respond(session, challenge, polynomial, words, key, y, z, list)?;
     let n = session.degree();
     let reads = 2 * n * challenge.len();
-    list[0] = entry(7, n);
+    list[0] = entry(Kind::Response, n);
     let (products, rest) = list[1..].split_at_mut(reads);
     let squares = multiply(n, challenge, key, z, products);
     let (norm, inner) = add(words[0] & 1 == 1, y, z);
     let bit = accepts::<P>(&Measures { squares, norm, inner }, polynomial, words);
-    list_places(&mut rest[..3], 2, 0..);
+    list_places(&mut rest[..3], Kind::Word, 0..);
     list_polynomial(&mut rest[3..24]);
     list_polynomial(&mut rest[24..45]);
-    rest[45] = entry(9, usize::from(bit));
+    rest[45] = entry(Kind::Bit, usize::from(bit));
     if !bit {
         z.fill(0);
     }
@@ -63,7 +63,7 @@ fn multiply(n: usize, challenge: &[u32], key: &[i32], z: &mut [i32], list: &mut 
             for (position, listed) in challenge.iter().zip(listed) {
                 let c = *position as usize;
                 let index = i.wrapping_sub(c) & (n - 1);
-                *listed = entry(8, half * n + index);
+                *listed = entry(Kind::Key, half * n + index);
                 sum += if c <= i { s[index] } else { -s[index] };
             }
             *output = sum;

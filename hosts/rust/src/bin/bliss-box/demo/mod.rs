@@ -4,13 +4,12 @@ mod picture;
 
 use std::time::{Duration, Instant};
 
-use bliss_box::{draw_limit, sample_count, word_count, Counts, OwnedDraw, OwnedResponse, Secret, Session};
+use bliss_box::{draw_limit, sample_count, word_count, Counts, Entry, Kind, OwnedDraw, OwnedResponse, Secret, Session};
 use bliss_box::{CDT, POLYNOMIAL, RESPOND_WORDS};
 
 use crate::arguments::{Arguments, Command, Operands};
 use crate::draw;
 use crate::ending::{Failure, Status};
-use crate::list::PLACES;
 use crate::output;
 use crate::words::Words;
 use picture::Picture;
@@ -38,19 +37,6 @@ The box listed each place of words, tables and key that it read after its checks
 list learns the degree, which attempts were accepted, the challenge and the bit of the response, but
 no word, no noise and no key value:
 ";
-
-/// What an entry of each kind tells, in the order of the kinds.
-const KINDS: [&str; 9] = [
-    "the degree of the draw",
-    "the place of a random word that was read",
-    "the place of a word of the CDT, the table of thresholds, that was read",
-    "the place of a word of the polynomial table that was read",
-    "the samples accepted before an attempt",
-    "the samples accepted in all",
-    "the degree of the response",
-    "the place of a key value that was read",
-    "the bit: whether the response was accepted",
-];
 
 /// The positions of a challenge of BLISS-I.
 const POSITIONS: usize = 23;
@@ -168,9 +154,9 @@ impl Shown {
 /// The entries of each kind, counted and explained.
 fn listed(list: &[u32]) -> String {
     let mut text = String::from("    kind  entries  each tells\n");
-    for (kind, told) in (1..).zip(KINDS) {
-        let count = list.iter().filter(|entry| *entry / PLACES == kind).count();
-        text += &format!("    {kind:>4}  {count:>7}  {told}\n");
+    for kind in Kind::ALL {
+        let count = list.iter().filter(|entry| Entry(**entry).kind() == Some(kind)).count();
+        text += &format!("    {:>4}  {count:>7}  {kind}\n", kind.number());
     }
     text
 }

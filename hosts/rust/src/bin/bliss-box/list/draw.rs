@@ -3,14 +3,9 @@
 
 use std::ops::RangeInclusive;
 
-use bliss_box::{sample_count, CDT};
+use bliss_box::{sample_count, Entry, Kind, CDT};
 
-use super::entries::{Entries, Entry, WORD};
-
-/// The kinds of entries that draws alone have, after their first entry.
-const THRESHOLD: u32 = 3;
-const ACCEPTED_BEFORE: u32 = 5;
-const ACCEPTED: u32 = 6;
+use super::entries::Entries;
 
 /// The accept bits that are printed on a line.
 const BITS_A_LINE: usize = 64;
@@ -30,10 +25,10 @@ pub fn explain(entries: &mut Entries, n: usize) -> Result<bool, String> {
     let mut draw = Draw { n, attempts: 0, accepted: 0, bits: vec![] };
     while !draw.ends(entries) {
         draw.take_reads(entries)?;
-        draw.take_count(entries, ACCEPTED_BEFORE)?;
+        draw.take_count(entries, Kind::AcceptedBefore)?;
         draw.attempts += 1;
     }
-    draw.take_count(entries, ACCEPTED)?;
+    draw.take_count(entries, Kind::Accepted)?;
     entries.say(&draw.told());
     Ok(draw.is_full())
 }
@@ -41,7 +36,7 @@ pub fn explain(entries: &mut Entries, n: usize) -> Result<bool, String> {
 impl Draw {
     /// Whether no further attempt follows. A draw makes 2n to 32n of them.
     fn ends(&self, entries: &Entries) -> bool {
-        let counted = entries.next().is_some_and(|entry| entry.kind == ACCEPTED);
+        let counted = entries.next().is_some_and(|entry| entry.kind() == Some(Kind::Accepted));
         self.attempts == 32 * self.n || self.attempts >= 2 * self.n && counted
     }
 
@@ -58,22 +53,22 @@ impl Draw {
             format!("compared with attempt {t}'s e(N)"),
         ];
         for (place, used) in (4 * t..).zip(uses) {
-            entries.take_this(WORD, place, &format!("word {place}: {used}"))?;
+            entries.take_this(Kind::Word, place, &format!("word {place}: {used}"))?;
         }
         for i in 0..CDT.len() {
             let half = if i % 2 == 0 { "high" } else { "low" };
-            entries.take_this(THRESHOLD, i, &format!("CDT word {i}: threshold {}, {half} word", i / 2 + 1))?;
+            entries.take_this(Kind::Cdt, i, &format!("CDT word {i}: threshold {}, {half} word", i / 2 + 1))?;
         }
         entries.take_polynomial(&format!("attempt {t}'s e(N)"))
     }
 
     /// Explains a count of accepted samples, which tells the accept bit of the attempt before it.
-    fn take_count(&mut self, entries: &mut Entries, kind: u32) -> Result<(), String> {
+    fn take_count(&mut self, entries: &mut Entries, kind: Kind) -> Result<(), String> {
         let counts = self.next_counts(kind);
-        let expected: Vec<String> = counts.clone().map(|count| format!("({kind}, {count})")).collect();
+        let expected: Vec<String> = counts.clone().map(|count| Entry::new(kind, count).to_string()).collect();
         let expected = format!("{}, the samples accepted so far,", expected.join(" or "));
-        let fits = |entry: Entry| entry.kind == kind && counts.contains(&entry.place);
-        let count = entries.take(fits, expected, |entry| self.count_meaning(kind, entry.place))?.place;
+        let fits = |entry: Entry| entry.kind() == Some(kind) && counts.contains(&entry.place());
+        let count = entries.take(fits, expected, |entry| self.count_meaning(kind, entry.place()))?.place();
         if self.attempts > 0 {
             self.bits.push(count > self.accepted);
         }
@@ -83,16 +78,16 @@ impl Draw {
 
     /// The counts that can follow the last one: the same, or one more where an attempt has been made. A draw that goes on is not
     /// full.
-    fn next_counts(&self, kind: u32) -> RangeInclusive<usize> {
+    fn next_counts(&self, kind: Kind) -> RangeInclusive<usize> {
         let wanted = sample_count(self.n);
-        let most = if kind == ACCEPTED { wanted } else { wanted - 1 };
+        let most = if kind == Kind::Accepted { wanted } else { wanted - 1 };
         self.accepted..=most.min(self.accepted + usize::from(self.attempts > 0))
     }
 
-    fn count_meaning(&self, kind: u32, count: usize) -> String {
+    fn count_meaning(&self, kind: Kind, count: usize) -> String {
         let samples = if count == 1 { "sample" } else { "samples" };
         let at = match kind {
-            ACCEPTED_BEFORE => format!(" before attempt {}", self.attempts),
+            Kind::AcceptedBefore => format!(" before attempt {}", self.attempts),
             _ if count == sample_count(self.n) => ": the draw is full".into(),
             _ => ": the draw is spent".into(),
         };

@@ -2,33 +2,7 @@
 
 use std::fmt;
 
-/// An entry is kind × PLACES + place.
-pub const PLACES: u32 = 1 << 24;
-
-/// Kinds of entries that both calls have.
-pub const WORD: u32 = 2;
-const POLYNOMIAL: u32 = 4;
-
-/// The last entry of the polynomial table, which is read first.
-const POLYNOMIAL_LAST: usize = bliss_box::POLYNOMIAL.len() - 1;
-
-#[derive(Clone, Copy)]
-pub struct Entry {
-    pub kind: u32,
-    pub place: usize,
-}
-
-impl Entry {
-    fn of(entry: u32) -> Entry {
-        Entry { kind: entry / PLACES, place: (entry % PLACES) as usize }
-    }
-}
-
-impl fmt::Display for Entry {
-    fn fmt(&self, f: &mut fmt::Formatter) -> fmt::Result {
-        f.pad(&format!("({}, {})", self.kind, self.place))
-    }
-}
+use bliss_box::{Entry, Kind, POLYNOMIAL};
 
 /// The entries of a list, from first to last, and the text that explains those before the next one.
 pub struct Entries<'a> {
@@ -48,7 +22,7 @@ impl Entries<'_> {
 
     /// The next entry and all after it.
     pub fn rest(&self) -> impl Iterator<Item = Entry> + '_ {
-        self.list[self.taken..].iter().map(|&entry| Entry::of(entry))
+        self.list[self.taken..].iter().map(|&entry| Entry(entry))
     }
 
     /// Explains the next entry, where it fits, and hands it back.
@@ -73,16 +47,16 @@ impl Entries<'_> {
     }
 
     /// Explains the next entry, which must be this one.
-    pub fn take_this(&mut self, kind: u32, place: usize, meaning: &str) -> Result<(), String> {
-        let fits = |entry: Entry| entry.kind == kind && entry.place == place;
-        self.take(fits, format_args!("({kind}, {place}), {meaning},"), |_| meaning.to_owned())?;
+    pub fn take_this(&mut self, kind: Kind, place: usize, meaning: &str) -> Result<(), String> {
+        let this = Entry::new(kind, place);
+        self.take(|entry| entry == this, format_args!("{this}, {meaning},"), |_| meaning.to_owned())?;
         Ok(())
     }
 
-    /// Explains the reads of the polynomial table for one exponential.
+    /// Explains the reads of the polynomial table for one exponential, from its last entry on.
     pub fn take_polynomial(&mut self, exponential: &str) -> Result<(), String> {
-        for j in (0..=POLYNOMIAL_LAST).rev() {
-            self.take_this(POLYNOMIAL, j, &format!("polynomial entry {j}, for {exponential}"))?;
+        for j in (0..POLYNOMIAL.len()).rev() {
+            self.take_this(Kind::Polynomial, j, &format!("polynomial entry {j}, for {exponential}"))?;
         }
         Ok(())
     }

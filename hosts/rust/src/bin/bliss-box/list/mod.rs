@@ -6,14 +6,13 @@ mod response;
 #[cfg(test)]
 mod tests;
 
-use bliss_box::Session;
+use bliss_box::{Entry, Kind, Session};
 
 use crate::arguments::{Arguments, Command, Operands};
 use crate::ending::{Failure, Status};
 use crate::files::Table;
 use crate::output;
-pub use entries::PLACES;
-use entries::{Entries, Entry};
+use entries::Entries;
 
 pub const COMMAND: Command = Command { name: "list", options: &[], operands: Operands::One("FILE"), help: HELP, run };
 
@@ -28,10 +27,6 @@ Whoever reads a read list learns the degree, which attempts were accepted, the c
 whether the response was accepted; these are printed again at the end of each call. An entry that
 cannot stand where it stands is an error. bliss-box --help says what files hold.
 ";
-
-/// The kinds of entries that begin a call.
-const DRAW: u32 = 1;
-const RESPONSE: u32 = 7;
 
 fn run(arguments: &Arguments) -> Result<Status, Failure> {
     let list = Table::read(&arguments.operands()[0])?;
@@ -51,11 +46,11 @@ fn explanation(list: &[u32]) -> Result<String, String> {
             entries.say("\n");
         }
         let first = beginning(&mut entries, degree, may_respond)?;
-        degree = Some(first.place);
-        may_respond = match first.kind {
-            DRAW => draw::explain(&mut entries, first.place)?,
+        degree = Some(first.place());
+        may_respond = match first.kind() {
+            Some(Kind::Draw) => draw::explain(&mut entries, first.place())?,
             _ => {
-                response::explain(&mut entries, first.place)?;
+                response::explain(&mut entries, first.place())?;
                 false
             }
         };
@@ -66,14 +61,14 @@ fn explanation(list: &[u32]) -> Result<String, String> {
 /// Explains the first entry of a call. The degree is the one of the calls before, if there are any.
 fn beginning(entries: &mut Entries, degree: Option<usize>, may_respond: bool) -> Result<Entry, String> {
     let fits = |entry: Entry| {
-        let right_degree = degree.map_or(Session::open(entry.place).is_ok(), |degree| entry.place == degree);
-        right_degree && (entry.kind == DRAW || entry.kind == RESPONSE && may_respond)
+        let right_degree = degree.map_or(Session::open(entry.place()).is_ok(), |degree| entry.place() == degree);
+        right_degree && (entry.kind() == Some(Kind::Draw) || entry.kind() == Some(Kind::Response) && may_respond)
     };
     let place = degree.map_or("a power of two from 4 to 1024".into(), |degree| degree.to_string());
-    let response = if may_respond { format!(" or of a response, ({RESPONSE}, {place}),") } else { String::new() };
-    let expected = format!("the first entry of a draw, ({DRAW}, {place}),{response}");
-    entries.take(fits, expected, |entry| match entry.kind {
-        DRAW => format!("a draw of degree {}", entry.place),
-        _ => format!("a response of degree {}", entry.place),
+    let [draw, response] = [Kind::Draw, Kind::Response].map(|kind| format!("({}, {place})", kind.number()));
+    let or_response = if may_respond { format!(" or of a response, {response},") } else { String::new() };
+    entries.take(fits, format_args!("the first entry of a draw, {draw},{or_response}"), |entry| match entry.kind() {
+        Some(Kind::Draw) => format!("a draw of degree {}", entry.place()),
+        _ => format!("a response of degree {}", entry.place()),
     })
 }

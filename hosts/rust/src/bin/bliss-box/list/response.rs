@@ -1,12 +1,8 @@
 //! The read list of a response: the key values that the product reads, three words, the polynomial table twice, and the bit.
 
-use bliss_box::challenge_limit;
+use bliss_box::{challenge_limit, Entry, Kind};
 
-use super::entries::{Entries, WORD};
-
-/// The kinds of entries that responses alone have, after their first entry.
-const KEY: u32 = 8;
-const BIT: u32 = 9;
+use super::entries::Entries;
 
 /// What the words of a response are for.
 const USES: [&str; 3] =
@@ -19,13 +15,14 @@ const POSITIONS_A_LINE: usize = 16;
 pub fn explain(entries: &mut Entries, n: usize) -> Result<(), String> {
     let challenge = challenge(entries, n);
     if challenge.is_empty() {
-        return Err(entries.unexpected(format_args!("a key value of s1, ({KEY}, 0) to ({KEY}, {}),", n - 1)));
+        let [first, last] = [0, n - 1].map(|place| Entry::new(Kind::Key, place));
+        return Err(entries.unexpected(format_args!("a key value of s1, {first} to {last},")));
     }
     for output in 0..2 * n {
         take_key_values(entries, n, output, &challenge)?;
     }
     for (place, used) in USES.iter().enumerate() {
-        entries.take_this(WORD, place, &format!("word {place}: {used}"))?;
+        entries.take_this(Kind::Word, place, &format!("word {place}: {used}"))?;
     }
     entries.take_polynomial("e(N1)")?;
     entries.take_polynomial("e(N2)")?;
@@ -39,8 +36,8 @@ pub fn explain(entries: &mut Entries, n: usize) -> Result<(), String> {
 /// They ascend, so that output 0 ends where they would not. In one case they go on to ascend: where position 0 is in the challenge,
 /// output 1 begins with key value 1, which output 0 reads for position n - 1. Output 0 has read it only if output 1 reads it again.
 fn challenge(entries: &Entries, n: usize) -> Vec<usize> {
-    let of_s1 = entries.rest().take_while(|entry| entry.kind == KEY && entry.place < n);
-    let mut key_values = of_s1.map(|entry| entry.place).peekable();
+    let of_s1 = entries.rest().take_while(|entry| entry.kind() == Some(Kind::Key) && entry.place() < n);
+    let mut key_values = of_s1.map(Entry::place).peekable();
     let mut challenge: Vec<usize> = Vec::new();
     while let Some(position) = key_values.peek().map(|index| (n - index) % n) {
         if challenge.len() == challenge_limit(n) || challenge.last().is_some_and(|last| position <= *last) {
@@ -61,20 +58,21 @@ fn take_key_values(entries: &mut Entries, n: usize, output: usize, challenge: &[
     for c in challenge {
         let index = if i >= *c { i - c } else { i + n - c };
         let meaning = format!("key value {index} of s{}: output {i}, position {c}", half + 1);
-        entries.take_this(KEY, half * n + index, &meaning)?;
+        entries.take_this(Kind::Key, half * n + index, &meaning)?;
     }
     Ok(())
 }
 
 /// Explains the last entry, and says what it tells.
 fn take_bit(entries: &mut Entries) -> Result<&'static str, String> {
-    let end = |bit| if bit == 1 { "accepted" } else { "rejected" };
+    let bits = [0, 1].map(|bit| Entry::new(Kind::Bit, bit));
+    let end = |entry| if entry == bits[1] { "accepted" } else { "rejected" };
     let entry = entries.take(
-        |entry| entry.kind == BIT && entry.place <= 1,
-        format_args!("({BIT}, 0) or ({BIT}, 1), the bit,"),
-        |entry| format!("bit {}: the response is {}", entry.place, end(entry.place)),
+        |entry| bits.contains(&entry),
+        format_args!("{} or {}, the bit,", bits[0], bits[1]),
+        |entry| format!("bit {}: the response is {}", entry.place(), end(entry)),
     )?;
-    Ok(end(entry.place))
+    Ok(end(entry))
 }
 
 /// The positions of a challenge in lines.

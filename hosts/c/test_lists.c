@@ -1,0 +1,91 @@
+/* Compares the lists of a draw and of a response with those that the header's kinds and lengths make. */
+#include "bliss_box.h"
+
+#include <stdio.h>
+#include <string.h>
+
+enum { DEGREE = 4, SAMPLES = 2 * DEGREE, POSITIONS = 2 };
+
+static const uint64_t polynomial[BLISS_POLYNOMIAL_WORDS] = BLISS_POLYNOMIAL;
+static const uint64_t cdt[BLISS_CDT_WORDS] = BLISS_CDT_215;
+static const uint32_t challenge[POSITIONS] = {0, 3};
+
+/* Attempts with words of 0 are accepted, so that as many of them as samples make a full draw; and so is a response with such
+ * words and a key of 0. */
+static const uint64_t words[BLISS_DRAW_WORDS(SAMPLES)];
+static const int32_t key[SAMPLES];
+static int32_t y[SAMPLES];
+static int32_t z[SAMPLES];
+
+static uint32_t draw_list[BLISS_DRAW_ENTRIES(SAMPLES)];
+static uint32_t respond_list[BLISS_RESPOND_ENTRIES(DEGREE, POSITIONS)];
+
+/* The entries that are expected, of one call at a time. */
+static uint32_t expected[BLISS_DRAW_ENTRIES(SAMPLES) + BLISS_RESPOND_ENTRIES(DEGREE, POSITIONS)];
+static size_t count;
+
+static void expect(uint32_t kind, size_t place)
+{
+    expected[count++] = BLISS_ENTRY(kind, place);
+}
+
+static void expect_polynomial(void)
+{
+    for (size_t j = BLISS_POLYNOMIAL_WORDS; j > 0; j--)
+        expect(BLISS_KIND_POLYNOMIAL, j - 1);
+}
+
+static void expect_draw(void)
+{
+    count = 0;
+    expect(BLISS_KIND_DRAW, DEGREE);
+    for (size_t t = 0; t < SAMPLES; t++) {
+        for (size_t i = BLISS_DRAW_WORDS(t); i < BLISS_DRAW_WORDS(t + 1); i++)
+            expect(BLISS_KIND_WORD, i);
+        for (size_t i = 0; i < BLISS_CDT_WORDS; i++)
+            expect(BLISS_KIND_CDT, i);
+        expect_polynomial();
+        expect(BLISS_KIND_ACCEPTED_BEFORE, t);
+    }
+    expect(BLISS_KIND_ACCEPTED, SAMPLES);
+}
+
+static void expect_response(void)
+{
+    count = 0;
+    expect(BLISS_KIND_RESPONSE, DEGREE);
+    for (size_t i = 0; i < SAMPLES; i++)
+        for (size_t j = 0; j < POSITIONS; j++)
+            expect(BLISS_KIND_KEY, i / DEGREE * DEGREE + (i + DEGREE - challenge[j]) % DEGREE);
+    for (size_t i = 0; i < BLISS_RESPOND_WORDS; i++)
+        expect(BLISS_KIND_WORD, i);
+    expect_polynomial();
+    expect_polynomial();
+    expect(BLISS_KIND_BIT, 1);
+}
+
+/* Whether a call listed what is expected, and its list is just as long. */
+static int same(const char *call, const uint32_t *list, size_t length, size_t entries)
+{
+    int right = entries == count && length == count && memcmp(list, expected, count * sizeof *list) == 0;
+
+    printf("%s: %zu entries listed, %sas the header has them\n", call, entries, right ? "" : "and NOT ");
+    return right;
+}
+
+int main(void)
+{
+    bliss_drawn drawn =
+        bliss_draw(bliss_open(DEGREE).session, SAMPLES, cdt, BLISS_CDT_WORDS, polynomial, BLISS_POLYNOMIAL_WORDS, words,
+                   BLISS_DRAW_WORDS(SAMPLES), y, SAMPLES, draw_list, BLISS_DRAW_ENTRIES(SAMPLES));
+    bliss_responded responded =
+        bliss_respond(drawn.session, challenge, POSITIONS, polynomial, BLISS_POLYNOMIAL_WORDS, words, BLISS_RESPOND_WORDS, key,
+                      SAMPLES, y, SAMPLES, z, SAMPLES, respond_list, BLISS_RESPOND_ENTRIES(DEGREE, POSITIONS));
+    int right;
+
+    expect_draw();
+    right = same("draw", draw_list, BLISS_DRAW_ENTRIES(SAMPLES), drawn.answer.entries);
+    expect_response();
+    right &= same("response", respond_list, BLISS_RESPOND_ENTRIES(DEGREE, POSITIONS), responded.answer.entries);
+    return !right;
+}
