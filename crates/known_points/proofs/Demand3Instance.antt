@@ -9,26 +9,22 @@ use lib.Dec.{ltb, eqb}
 use lib.IntN.{ℤ, pos}
 use lib.ListN.{length, replicate, getD, List·getD-append}
 use borrow.Author.Tests.{ltb-true, eq-eqb}
-use Rattle.read_list.specs.Entries.{kindOf, placeOf, placesUp, placesDown, filledPart}
-use Rattle.read_list.specs.Agreement.{Agree}
-use Rattle.checks.specs.Checks.{among, isDegree, allBelow, unless}
+use Rattle.read_list.specs.Entries.{kindOf, placeOf}
+use Rattle.read_list.specs.Agreement.{Lent, Agree}
 use Rattle.checks.proofs.JoinedTests.{both-true}
-use Rattle.signed.specs.Vectors.{allWithin, squareSum, innerProduct}
-use Rattle.exponential.specs.Exponential.{factorial, entriesFrom as polynomialFrom, polynomial, sameWords, isPolynomial, reciprocal, scaled, evaluate, squared, squarings, expScaled, expWith}
-use Rattle.base_sample.specs.BaseSample.{wordsSmall, neverFalls, isCdt, atOrBelow, baseSample}
-use Rattle.known_points.specs.EvenThresholds.{thresholdsFrom, evenThresholds}
-use Rattle.attempt.specs.Attempt.{accepts, sample, bitAt, sampleAt, attemptEntries}
-use Rattle.sampler.specs.Draw.{bitsFrom, drawBits, accepted, samplesFrom, drawY, entriesFrom, drawEntries, sampledBy}
-use Rattle.challenge.specs.Challenge.{positionsBelow, ascends, arePositions, isChallenge}
-use Rattle.challenge.specs.Product.{termAt, outputAt, outputsFrom, product, outputEntries, outputEntriesFrom, productEntries}
-use Rattle.acceptance.specs.Acceptance.{coshPasses, allPass, acceptsBy, acceptanceEntries}
-use Rattle.response.specs.Response.{responseOf, measuresOf, respondEntries, responseZ, responseBit, respondedBy}
-use Rattle.refusals.specs.Refusals.{openRefusal, drawRefusal, noiseRefusal, respondRefusal}
-use Rattle.session.specs.Calls.{opened, refusalOfDraw, bitsOfDraw, drawRefused, drawServed, drawLeft, refusalOfRespond, bitOfRespond, zOfRespond, respondRefused, respondServed, respondLeft}
+use Rattle.exponential.specs.Exponential.{polynomial}
+use Rattle.known_points.specs.EvenThresholds.{evenThresholds}
+use Rattle.sampler.specs.Draw.{drawEntries}
+use Rattle.response.specs.Response.{respondEntries}
 use Rattle.session.specs.declared.Session.{Session}
-use Rattle.session.specs.Histories.{Call, draw, respond, leftBy, refusalIn, nextIn, yIn, entriesIn, Linked, readList, Event, drew, answered, eventOf, history, renderEvent}
+use Rattle.session.specs.Calls.{opened}
+use Rattle.session.specs.Histories.{Call, draw, respond, leftBy, refusalIn, nextIn, yIn, entriesIn, Linked, readList}
+use Rattle.session.specs.Histories.{Event, drew, answered, eventOf, history, renderEvent}
 use Rattle.session.specs.Demand3.{NoneRefused, AllAlike, lent, Agreeing, seen}
-use Rattle.known_points.specs.Demand3Instance.{wordsOf, oneToEight, drawOver, drawing, rejecting, responding, callsOver, calls, calls′, callsRejecting, refusedRespond, refusedDraw, callsRefused, rounds, start, drawnAndAnswered, AnyNumber, Demand3Instance}
+use Rattle.known_points.specs.Demand3Instance.{wordsOf, oneToEight, drawOver, drawing, rejecting, responding, callsOver}
+use Rattle.known_points.specs.Demand3Instance.{calls, calls′, callsRejecting, refusedRespond, refusedDraw, callsRefused, rounds}
+use Rattle.known_points.specs.Demand3Instance.{start, drawnAndAnswered, AnyNumber, Demand3Instance}
+use Rattle.known_points.proofs.Computing.{refusals, lists, wholeCalls}
 use Rattle.session.proofs.Calls.{served-entries}
 use Rattle.session.proofs.Demand3.{demand3}
 
@@ -52,9 +48,12 @@ word-below bound e (f ∷ list) h m k =
     here : e ≡ f → (not (eqb (kindOf f) 2) || ltb (placeOf f) bound) ≡ true → placeOf e < bound
     here at t = ltb-true (placeOf e) bound (rw (← at, eq-eqb (kindOf e) 2 k) at t)
 
+abbrev lentBy : (words cdt table : List ℕ) (key : List ℤ) → Lent
+lentBy words cdt table key = record { words = words; cdt = cdt; polynomial = table; key = key }
+
 -- what is lent has the same words first and others behind them, and only the first are named
 agree-on-first : (first rest rest′ cdt table : List ℕ) (key : List ℤ) (list : List ℕ) → wordsBelow (length first) list ≡ true
-    → Agree (record { words = first ++ rest; cdt = cdt; polynomial = table; key = key }) (record { words = first ++ rest′; cdt = cdt; polynomial = table; key = key }) list
+    → Agree (lentBy (first ++ rest) cdt table key) (lentBy (first ++ rest′) cdt table key) list
 agree-on-first first rest rest′ cdt table key list h e m = record {
   words = λ k.
       let below = word-below (length first) e list h m k in
@@ -83,23 +82,18 @@ record Served (s : Session) (c : Call) (next : Session) (y : List ℤ) (event : 
   y-is : yIn (leftBy s c) ≡ y
   event-is : eventOf s c ≡ event
 
-entries-of : {s : Session} {c : Call} {next : Session} {y : List ℤ} {event : Event} → Served s c next y event → entriesIn (leftBy s c) ≡ renderEvent event
+entries-of : {s : Session} {c : Call} {next : Session} {y : List ℤ} {event : Event} → Served s c next y event
+    → entriesIn (leftBy s c) ≡ renderEvent event
 entries-of {s} {c} r = served-entries s c (r .served) ∙ ap renderEvent (r .event-is)
 
 -- a draw and a respond at degree 4 are computed, once for all words that are not read
 module _ (unread filler : ℕ) where
   draw-served : Served (atFour false) (theDraw unread filler) (atFour true) oneToEight (drew 4 (replicate 8 true))
-  unfolding drawing drawOver wordsOf oneToEight evenThresholds thresholdsFrom leftBy drawLeft drawServed refusalOfDraw drawRefusal bitsOfDraw eventOf
-      unless isDegree among allBelow isCdt wordsSmall neverFalls isPolynomial sameWords polynomial polynomialFrom factorial drawBits bitsFrom
-      bitAt accepts sampleAt sample baseSample atOrBelow expWith expScaled reciprocal scaled evaluate squared squarings sampledBy
-      accepted drawY samplesFrom drawEntries entriesFrom attemptEntries placesUp placesDown
+  unfolding wholeCalls drawing drawOver wordsOf oneToEight
   draw-served = record { served = refl; next-is = refl; y-is = refl; event-is = refl }
 
   respond-served : Served (atFour true) (theRespond unread filler) (atFour false) (replicate 8 (pos 0)) (answered 4 true (0 ∷ 2 ∷ []))
-  unfolding responding oneToEight leftBy respondLeft respondServed refusalOfRespond respondRefusal noiseRefusal bitOfRespond eventOf
-      unless isDegree among allBelow isPolynomial sameWords polynomial polynomialFrom factorial isChallenge arePositions positionsBelow ascends allWithin
-      respondedBy responseBit responseZ responseOf measuresOf acceptsBy allPass coshPasses squareSum innerProduct product outputsFrom outputAt termAt
-      expWith expScaled reciprocal scaled evaluate squared squarings
+  unfolding wholeCalls responding oneToEight
   respond-served = record { served = refl; next-is = refl; y-is = refl; event-is = refl }
 
   linked-rounds : (count : ℕ) → Linked (atFour false) (replicate 8 (pos 0)) (rounds unread filler count)
@@ -113,7 +107,10 @@ module _ (unread filler : ℕ) where
   served-rounds : (count : ℕ) → NoneRefused (atFour false) (rounds unread filler count)
   unfolding NoneRefused rounds callsOver
   served-rounds zero = tt
-  served-rounds (suc count) = let d = draw-served in let r = respond-served in (d .served, rw (d .next-is) (r .served, rw (r .next-is) (served-rounds count)))
+  served-rounds (suc count) =
+      let d = draw-served in
+      let r = respond-served in
+      (d .served, rw (d .next-is) (r .served, rw (r .next-is) (served-rounds count)))
 
 alike-rounds : (count : ℕ) → AllAlike (rounds 0 0 count) (rounds 7 9 count)
 unfolding AllAlike rounds callsOver drawing drawOver responding
@@ -121,24 +118,26 @@ alike-rounds zero = tt
 alike-rounds (suc count) = (refl, (refl, alike-rounds count))
 
 draws-agree : Agree (lent (theDraw 0 0)) (lent (theDraw 7 9)) (entriesIn (leftBy (atFour false) (theDraw 0 0)))
-unfolding drawing drawOver wordsOf renderEvent drawEntries entriesFrom attemptEntries placesUp placesDown wordsBelow
+unfolding lists drawing drawOver wordsOf renderEvent wordsBelow
 draws-agree =
     rw (entries-of (draw-served 0 0))
     (agree-on-first (wordsOf 1 8) (replicate 32 0) (replicate 32 7) evenThresholds polynomial [] (drawEntries 4 (replicate 8 true)) refl)
 
 responds-agree : Agree (lent (theRespond 0 0)) (lent (theRespond 7 9)) (entriesIn (leftBy (atFour true) (theRespond 0 0)))
-unfolding responding renderEvent respondEntries productEntries outputEntriesFrom outputEntries acceptanceEntries placesUp placesDown wordsBelow
+unfolding lists responding renderEvent wordsBelow
 responds-agree =
+    let key = responding 0 (pos 0) 0 .key in
     rw (entries-of (respond-served 0 0))
-    (agree-on-first (0 ∷ 0 ∷ 0 ∷ []) (0 ∷ []) (7 ∷ []) [] polynomial (responding 0 (pos 0) 0 .key) (respondEntries 4 true (0 ∷ 2 ∷ [])) refl)
+    (agree-on-first (0 ∷ 0 ∷ 0 ∷ []) (0 ∷ []) (7 ∷ []) [] polynomial key (respondEntries 4 true (0 ∷ 2 ∷ [])) refl)
 
 agreeing-rounds : (count : ℕ) → Agreeing (atFour false) (rounds 0 0 count) (rounds 7 9 count)
 unfolding Agreeing rounds callsOver
 agreeing-rounds zero = tt
-agreeing-rounds (suc count) = (draws-agree, rw (draw-served 0 0 .next-is) (responds-agree, rw (respond-served 0 0 .next-is) (agreeing-rounds count)))
+agreeing-rounds (suc count) =
+    (draws-agree, rw (draw-served 0 0 .next-is) (responds-agree, rw (respond-served 0 0 .next-is) (agreeing-rounds count)))
 
 any-number : (count : ℕ) → AnyNumber count
-unfolding opened openRefusal unless isDegree among
+unfolding opened refusals
 any-number count = record {
   linked = linked-rounds 0 0 count;
   linked′ = linked-rounds 7 9 count;
@@ -153,19 +152,14 @@ any-number count = record {
 tells-apart : (bits bits′ : List Bool) → drawnAndAnswered (true ∷ bits) ≡ drawnAndAnswered (false ∷ bits′) → ⊥
 tells-apart bits bits′ e = let z : _≡_ {A = ℕ} 0 1 = cc in omega arith
 
-nonzero : _≡_ {A = ℕ} 2 0 → ⊥
-nonzero h = omega arith
+-- of a call that is refused by 2 nothing is asked
+refused : {A : Type 0} → _≡_ {A = ℕ} 2 0 → A
+refused h = absurd (omega arith)
 
 -- what the calls do is computed
 pub demand3-instance : Demand3Instance
-unfolding callsOver callsRejecting callsRefused refusedDraw drawRefused refusedRespond respondRefused rejecting drawing responding drawOver wordsOf oneToEight evenThresholds thresholdsFrom opened openRefusal leftBy drawLeft
-    drawServed refusalOfDraw drawRefusal bitsOfDraw respondLeft respondServed refusalOfRespond respondRefusal noiseRefusal bitOfRespond Linked
-    NoneRefused AllAlike Agreeing history eventOf wordsBelow unless isDegree among allBelow isCdt wordsSmall neverFalls
-    isPolynomial sameWords polynomial polynomialFrom factorial isChallenge arePositions positionsBelow ascends allWithin drawBits bitsFrom
-    bitAt accepts sampleAt sample baseSample atOrBelow expWith expScaled reciprocal scaled evaluate squared squarings sampledBy
-    accepted drawY samplesFrom drawEntries entriesFrom attemptEntries placesUp placesDown filledPart respondedBy responseBit
-    responseZ responseOf measuresOf acceptsBy allPass coshPasses squareSum innerProduct product outputsFrom outputAt termAt respondEntries acceptanceEntries
-    productEntries outputEntriesFrom outputEntries seen readList zOfRespond
+unfolding wholeCalls lists drawing drawOver wordsOf oneToEight responding callsOver rejecting callsRejecting refusedDraw refusedRespond
+    callsRefused Linked NoneRefused AllAlike Agreeing history seen readList
 demand3-instance =
     let linked : Linked start (replicate 8 (pos 0)) calls = ((λ h. refl), ((λ h. refl), tt)) in
     let linked′ : Linked start (replicate 8 (pos 1)) calls′ = ((λ h. refl), ((λ h. refl), tt)) in
@@ -173,9 +167,10 @@ demand3-instance =
     let none-refused′ : NoneRefused start calls′ = (refl, (refl, tt)) in
     let alike : AllAlike calls calls′ = (refl, (refl, tt)) in
     let agreeing : Agreeing start calls calls′ = (draws-agree, (responds-agree, tt)) in
-    let linked-refused : Linked start (replicate 8 (pos 0)) callsRefused = ((λ h. refl), ((λ h. absurd (nonzero h)), ((λ h. absurd (nonzero h)), ((λ h. refl), tt)))) in
+    let linked-refused : Linked start (replicate 8 (pos 0)) callsRefused = ((λ h. refl), (refused, (refused, ((λ h. refl), tt)))) in
     let linked-rejecting : Linked start (replicate 8 (pos 0)) callsRejecting = ((λ h. refl), ((λ h. refl), tt)) in
-    let same = demand3 4 4 (replicate 8 (pos 0)) (replicate 8 (pos 1)) calls calls′ linked linked′ .1 refl none-refused none-refused′ alike agreeing in
+    let halves = demand3 4 4 (replicate 8 (pos 0)) (replicate 8 (pos 1)) calls calls′ linked linked′ in
+    let same = halves .1 refl none-refused none-refused′ alike agreeing in
     let told = demand3 4 4 (replicate 8 (pos 0)) (replicate 8 (pos 0)) calls callsRejecting linked linked-rejecting .0 .0 in
     record {
       linked = linked;

@@ -112,7 +112,9 @@ respondRefusedBy2 = answer
 
 -- and of the respond: its bit is 1, y is all zero, and z
 abbrev pub answeredBy : (z : List ℤ) → Seen
-answeredBy z = answer (record { answer = record { refusal = 0; bit = true; entries = 63 }; session = record { degree = 4; drawn = false } }) (replicate 8 (pos 0)) z
+answeredBy z = answer
+    (record { answer = record { refusal = 0; bit = true; entries = 63 }; session = record { degree = 4; drawn = false } })
+    (replicate 8 (pos 0)) z
 
 -- ** What demand 3 says of them
 
