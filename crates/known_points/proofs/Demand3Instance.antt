@@ -14,9 +14,10 @@ use Rattle.read_list.specs.Entries.{kindOf, placeOf}
 use Rattle.checks.proofs.JoinedTests.{both-true}
 use Rattle.session.specs.declared.Session.{Session}
 use Rattle.session.specs.Calls.{Draw, drawLeft, Respond, respondLeft}
-use Rattle.session.specs.Histories.{Call, respond, Linked, readList, history}
+use Rattle.session.specs.Histories.{Call, respond, Linked, history, renderEvent, render}
 use Rattle.session.specs.Demand3.{NoneRefused, seen}
 use Rattle.session.specs.PremiseLaws.{SameDraws, SameResponds}
+use Rattle.session.proofs.Rendering.{read-list-is-rendered}
 use Rattle.session.proofs.Demand3.{demand3}
 use Rattle.session.proofs.PremiseLaws.{no-calls-meet, draws-meet, responds-meet}
 use Rattle.known_points.specs.Demand3Instance.{wordsOf, oneToEight, drawOver, drawing, rejecting, responding, callsOver}
@@ -121,7 +122,7 @@ refused h = absurd (omega arith)
 -- what the calls do is computed
 pub demand3-instance : Demand3Instance
 unfolding wholeCalls lists drawing drawOver wordsOf oneToEight responding callsOver rejecting callsRejecting refusedDraw refusedRespond
-    callsRefused Linked NoneRefused history seen readList
+    callsRefused Linked NoneRefused history seen render renderEvent
 demand3-instance =
     let premises : Meet (pos 0) (pos 1) calls calls′ = one-more (pos 0) (pos 1) none in
     let linked = premises .linked in
@@ -136,9 +137,9 @@ demand3-instance =
       seen-same = same .0;
       reads-same = same .1;
       seen-is = refl;
-      reads-are = refl;
+      reads-are = read-list-is-rendered start calls;
       history-is = refl;
-      history-is′ = refl;
+      history-is′ = sym (halves .0 .0 (same .1));
       seen-refused = refl;
       linked-refused = linked-refused;
       history-is-refused = refl;
