@@ -1,4 +1,5 @@
--- Demand 3 at degree 4: what the calls do by computation, and the rest by demand 3. Assumes nothing.
+-- Demand 3 at degree 4: what the calls do by computation, that they meet its premises by the laws of premises, and the rest by demand 3.
+-- Assumes nothing.
 use mathlib.Core.Path.{_≡_, refl, sym, ap, _∙_}
 use mathlib.Core.Bool.{Bool, true, false, not, _&&_, _||_}
 use mathlib.Core.Logic.{⊎-elim}
@@ -7,30 +8,22 @@ use Prim.Native.Nat.{ℕ, zero, suc, _<_}
 use native.Mathlib.Omega.{arith}
 use lib.Dec.{ltb, eqb}
 use lib.IntN.{ℤ, pos}
-use lib.ListN.{length, replicate, getD, List·getD-append}
+use lib.ListN.{length, take, replicate, getD, List·getD-append}
 use borrow.Author.Tests.{ltb-true, eq-eqb}
-use Rattle.read_list.specs.Entries.{kindOf, placeOf, placesUp, placesDown, filledPart}
-use Rattle.read_list.specs.Agreement.{Agree}
-use Rattle.checks.specs.Checks.{among, isDegree, allBelow, firstRefusal}
+use Rattle.read_list.specs.Entries.{kindOf, placeOf}
 use Rattle.checks.proofs.JoinedTests.{both-true}
-use Rattle.signed.specs.Vectors.{allWithin, squareSum, innerProduct}
-use Rattle.exponential.specs.Exponential.{factorial, entriesFrom as polynomialFrom, polynomial, sameWords, isPolynomial, reciprocal, scaled, evaluate, squared, squarings, expScaled, expWith}
-use Rattle.base_sample.specs.BaseSample.{wordsSmall, neverFalls, isCdt, atOrBelow, baseSample}
-use Rattle.known_points.specs.EvenThresholds.{thresholdsFrom, evenThresholds}
-use Rattle.attempt.specs.Attempt.{accepts, sample, bitAt, sampleAt, attemptEntries}
-use Rattle.sampler.specs.Draw.{bitsFrom, drawBits, accepted, samplesFrom, drawY, entriesFrom, drawEntries, sampledBy}
-use Rattle.challenge.specs.Challenge.{positionsBelow, ascends, arePositions, isChallenge}
-use Rattle.challenge.specs.Product.{termAt, outputAt, outputsFrom, product, outputEntries, outputEntriesFrom, productEntries}
-use Rattle.acceptance.specs.Acceptance.{coshPasses, allPass, acceptsBy, acceptanceEntries}
-use Rattle.response.specs.Response.{responseOf, measuresOf, respondEntries, responseZ, responseBit, respondedBy}
-use Rattle.refusals.specs.Refusals.{openRefusal, drawRefusal, noiseRefusal, respondRefusal}
-use Rattle.session.specs.Calls.{opened, refusalOfDraw, bitsOfDraw, drawRefused, drawServed, drawLeft, refusalOfRespond, bitOfRespond, zOfRespond, respondRefused, respondServed, respondLeft}
 use Rattle.session.specs.declared.Session.{Session}
-use Rattle.session.specs.Histories.{Call, draw, respond, leftBy, refusalIn, nextIn, yIn, entriesIn, Linked, readList, Event, drew, answered, eventOf, history, renderEvent}
-use Rattle.session.specs.Demand3.{NoneRefused, AllAlike, lent, Agreeing, seen}
-use Rattle.known_points.specs.Demand3Instance.{wordsOf, oneToEight, drawOver, drawing, rejecting, responding, callsOver, calls, calls′, callsRejecting, refusedRespond, refusedDraw, callsRefused, rounds, start, drawnAndAnswered, AnyNumber, Demand3Instance}
-use Rattle.session.proofs.Calls.{served-entries}
+use Rattle.session.specs.Calls.{Draw, drawLeft, Respond, respondLeft}
+use Rattle.session.specs.Histories.{Call, respond, Linked, history, renderEvent, render}
+use Rattle.session.specs.Demand3.{NoneRefused, seen}
+use Rattle.session.specs.PremiseLaws.{SameDraws, SameResponds}
+use Rattle.session.proofs.Rendering.{read-list-is-rendered}
 use Rattle.session.proofs.Demand3.{demand3}
+use Rattle.session.proofs.PremiseLaws.{no-calls-meet, draws-meet, responds-meet}
+use Rattle.known_points.specs.Demand3Instance.{wordsOf, oneToEight, drawOver, drawing, rejecting, responding, callsOver}
+use Rattle.known_points.specs.Demand3Instance.{calls, calls′, callsRejecting, refusedRespond, refusedDraw, callsRefused, rounds}
+use Rattle.known_points.specs.Demand3Instance.{start, drawnAndAnswered, Meet, Demand3Instance}
+use Rattle.known_points.proofs.Computing.{lists, wholeCalls}
 
 -- ** Agreement where the words that differ are not read
 
@@ -52,145 +45,101 @@ word-below bound e (f ∷ list) h m k =
     here : e ≡ f → (not (eqb (kindOf f) 2) || ltb (placeOf f) bound) ≡ true → placeOf e < bound
     here at t = ltb-true (placeOf e) bound (rw (← at, eq-eqb (kindOf e) 2 k) at t)
 
--- what is lent has the same words first and others behind them, and only the first are named
-agree-on-first : (first rest rest′ cdt table : List ℕ) (key : List ℤ) (list : List ℕ) → wordsBelow (length first) list ≡ true
-    → Agree (record { words = first ++ rest; cdt = cdt; polynomial = table; key = key }) (record { words = first ++ rest′; cdt = cdt; polynomial = table; key = key }) list
-agree-on-first first rest rest′ cdt table key list h e m = record {
-  words = λ k.
-      let below = word-below (length first) e list h m k in
-      List·getD-append first rest 0 (placeOf e) below ∙ sym (List·getD-append first rest′ 0 (placeOf e) below);
-  cdt = λ k. refl;
-  polynomial = λ k. refl;
-  key = λ k. refl;
-}
+-- words that differ behind the first ones are the same at every place that such a list names
+same-words : (first rest rest′ list : List ℕ) (e : ℕ) → wordsBelow (length first) list ≡ true → List·Memᴰ e list → kindOf e ≡ 2
+    → getD (first ++ rest) (placeOf e) 0 ≡ getD (first ++ rest′) (placeOf e) 0
+same-words first rest rest′ list e h m k =
+    let below = word-below (length first) e list h m k in
+    List·getD-append first rest 0 (placeOf e) below ∙ sym (List·getD-append first rest′ 0 (placeOf e) below)
 
--- ** Any number of calls
+-- ** A draw and a respond, and calls behind them
 
--- a session of degree 4
-abbrev atFour : (drawn : Bool) → Session
-atFour drawn = record { degree = 4; drawn = drawn }
+-- what the calls do is computed, once for all that y and z have before
+module _ (before before′ : ℤ) where
+  abbrev d : Draw
+  d = drawing 0 before 0
 
-abbrev theDraw : (unread filler : ℕ) → Call
-theDraw unread filler = draw (drawing unread (pos 0) filler)
+  abbrev d′ : Draw
+  d′ = drawing 7 before′ 9
 
-abbrev theRespond : (unread filler : ℕ) → Call
-theRespond unread filler = respond (responding unread (pos 0) filler)
+  abbrev r : Respond
+  r = responding 0 before 0
 
--- a call is served, leaves this session and this y, and has this event
-record Served (s : Session) (c : Call) (next : Session) (y : List ℤ) (event : Event) : Type 0 where
-  served : refusalIn (leftBy s c) ≡ 0
-  next-is : nextIn (leftBy s c) ≡ next
-  y-is : yIn (leftBy s c) ≡ y
-  event-is : eventOf s c ≡ event
+  abbrev r′ : Respond
+  r′ = responding 7 before′ 9
 
-entries-of : {s : Session} {c : Call} {next : Session} {y : List ℤ} {event : Event} → Served s c next y event → entriesIn (leftBy s c) ≡ renderEvent event
-entries-of {s} {c} r = served-entries s c (r .served) ∙ ap renderEvent (r .event-is)
+  -- the session after the draw
+  abbrev drawn : Session
+  drawn = record { degree = 4; drawn = true }
 
--- a draw and a respond at degree 4 are computed, once for all words that are not read
-module _ (unread filler : ℕ) where
-  draw-served : Served (atFour false) (theDraw unread filler) (atFour true) oneToEight (drew 4 (replicate 8 true))
-  unfolding drawing drawOver wordsOf oneToEight evenThresholds thresholdsFrom leftBy drawLeft drawServed refusalOfDraw drawRefusal bitsOfDraw eventOf
-      firstRefusal isDegree among allBelow isCdt wordsSmall neverFalls isPolynomial sameWords polynomial polynomialFrom factorial drawBits bitsFrom
-      bitAt accepts sampleAt sample baseSample atOrBelow expWith expScaled reciprocal scaled evaluate squared squarings sampledBy
-      accepted drawY samplesFrom drawEntries entriesFrom attemptEntries placesUp placesDown
-  draw-served = record { served = refl; next-is = refl; y-is = refl; event-is = refl }
+  -- the entries that the draw and the respond write
+  abbrev listedByDraw : List ℕ
+  listedByDraw = let left = drawLeft start d in take (left .drawn .answer .entries) (left .list)
 
-  respond-served : Served (atFour true) (theRespond unread filler) (atFour false) (replicate 8 (pos 0)) (answered 4 true (0 ∷ 2 ∷ []))
-  unfolding responding oneToEight leftBy respondLeft respondServed refusalOfRespond respondRefusal noiseRefusal bitOfRespond eventOf
-      firstRefusal isDegree among allBelow isPolynomial sameWords polynomial polynomialFrom factorial isChallenge arePositions positionsBelow ascends allWithin
-      respondedBy responseBit responseZ responseOf measuresOf acceptsBy allPass coshPasses squareSum innerProduct product outputsFrom outputAt termAt
-      expWith expScaled reciprocal scaled evaluate squared squarings
-  respond-served = record { served = refl; next-is = refl; y-is = refl; event-is = refl }
+  abbrev listedByRespond : List ℕ
+  listedByRespond = let left = respondLeft drawn r in take (left .responded .answer .entries) (left .list)
 
-  linked-rounds : (count : ℕ) → Linked (atFour false) (replicate 8 (pos 0)) (rounds unread filler count)
-  unfolding Linked rounds callsOver drawing drawOver responding
-  linked-rounds zero = tt
-  linked-rounds (suc count) =
-      let d = draw-served in
-      let r = respond-served in
-      ((λ h. refl), rw (d .served, d .next-is, d .y-is) ((λ h. refl), rw (r .served, r .next-is, r .y-is) (linked-rounds count)))
+  draws-same : (e : ℕ) → List·Memᴰ e listedByDraw → SameDraws d d′ e
+  unfolding wholeCalls lists drawing drawOver wordsOf wordsBelow
+  draws-same e m = record {
+    words = same-words (wordsOf 1 8) (replicate 32 0) (replicate 32 7) listedByDraw e refl m;
+    cdt = λ k. refl;
+    polynomial = λ k. refl;
+  }
 
-  served-rounds : (count : ℕ) → NoneRefused (atFour false) (rounds unread filler count)
-  unfolding NoneRefused rounds callsOver
-  served-rounds zero = tt
-  served-rounds (suc count) = let d = draw-served in let r = respond-served in (d .served, rw (d .next-is) (r .served, rw (r .next-is) (served-rounds count)))
+  responds-same : (e : ℕ) → List·Memᴰ e listedByRespond → SameResponds r r′ e
+  unfolding wholeCalls lists responding oneToEight wordsBelow
+  responds-same e m = record {
+    words = same-words (0 ∷ 0 ∷ 0 ∷ []) (0 ∷ []) (7 ∷ []) listedByRespond e refl m;
+    polynomial = λ k. refl;
+    key = λ k. refl;
+  }
 
-alike-rounds : (count : ℕ) → AllAlike (rounds 0 0 count) (rounds 7 9 count)
-unfolding AllAlike rounds callsOver drawing drawOver responding
-alike-rounds zero = tt
-alike-rounds (suc count) = (refl, (refl, alike-rounds count))
+  one-more : {rest rest′ : List Call} → Meet (pos 0) (pos 0) rest rest′
+      → Meet before before′ (callsOver 0 before 0 ++ rest) (callsOver 7 before′ 9 ++ rest′)
+  unfolding wholeCalls drawing drawOver wordsOf oneToEight responding callsOver
+  one-more {rest} {rest′} later =
+      let responds = responds-meet drawn drawn r r′ rest rest′ refl refl refl responds-same later in
+      draws-meet start start d d′ (respond r ∷ rest) (respond r′ ∷ rest′) refl refl refl draws-same responds
 
-draws-agree : Agree (lent (theDraw 0 0)) (lent (theDraw 7 9)) (entriesIn (leftBy (atFour false) (theDraw 0 0)))
-unfolding drawing drawOver wordsOf renderEvent drawEntries entriesFrom attemptEntries placesUp placesDown wordsBelow
-draws-agree =
-    rw (entries-of (draw-served 0 0))
-    (agree-on-first (wordsOf 1 8) (replicate 32 0) (replicate 32 7) evenThresholds polynomial [] (drawEntries 4 (replicate 8 true)) refl)
+none : Meet (pos 0) (pos 0) [] []
+none = no-calls-meet start start (replicate 8 (pos 0)) (replicate 8 (pos 0))
 
-responds-agree : Agree (lent (theRespond 0 0)) (lent (theRespond 7 9)) (entriesIn (leftBy (atFour true) (theRespond 0 0)))
-unfolding responding renderEvent respondEntries productEntries outputEntriesFrom outputEntries acceptanceEntries placesUp placesDown wordsBelow
-responds-agree =
-    rw (entries-of (respond-served 0 0))
-    (agree-on-first (0 ∷ 0 ∷ 0 ∷ []) (0 ∷ []) (7 ∷ []) [] polynomial (responding 0 (pos 0) 0 .key) (respondEntries 4 true (0 ∷ 2 ∷ [])) refl)
-
-agreeing-rounds : (count : ℕ) → Agreeing (atFour false) (rounds 0 0 count) (rounds 7 9 count)
-unfolding Agreeing rounds callsOver
-agreeing-rounds zero = tt
-agreeing-rounds (suc count) = (draws-agree, rw (draw-served 0 0 .next-is) (responds-agree, rw (respond-served 0 0 .next-is) (agreeing-rounds count)))
-
-any-number : (count : ℕ) → AnyNumber count
-unfolding opened openRefusal firstRefusal isDegree among
-any-number count = record {
-  linked = linked-rounds 0 0 count;
-  linked′ = linked-rounds 7 9 count;
-  none-refused = served-rounds 0 0 count;
-  none-refused′ = served-rounds 7 9 count;
-  alike = alike-rounds count;
-  agreeing = agreeing-rounds count;
-}
+rounds-meet : (count : ℕ) → Meet (pos 0) (pos 0) (rounds 0 0 count) (rounds 7 9 count)
+unfolding rounds
+rounds-meet zero = none
+rounds-meet (suc count) = one-more (pos 0) (pos 0) (rounds-meet count)
 
 -- ** The instance
 
 tells-apart : (bits bits′ : List Bool) → drawnAndAnswered (true ∷ bits) ≡ drawnAndAnswered (false ∷ bits′) → ⊥
 tells-apart bits bits′ e = let z : _≡_ {A = ℕ} 0 1 = cc in omega arith
 
-nonzero : _≡_ {A = ℕ} 2 0 → ⊥
-nonzero h = omega arith
+-- of a call that is refused by 2 nothing is asked
+refused : {A : Type 0} → _≡_ {A = ℕ} 2 0 → A
+refused h = absurd (omega arith)
 
 -- what the calls do is computed
 pub demand3-instance : Demand3Instance
-unfolding callsOver callsRejecting callsRefused refusedDraw drawRefused refusedRespond respondRefused rejecting drawing responding drawOver wordsOf oneToEight evenThresholds thresholdsFrom opened openRefusal leftBy drawLeft
-    drawServed refusalOfDraw drawRefusal bitsOfDraw respondLeft respondServed refusalOfRespond respondRefusal noiseRefusal bitOfRespond Linked
-    NoneRefused AllAlike Agreeing history eventOf wordsBelow firstRefusal isDegree among allBelow isCdt wordsSmall neverFalls
-    isPolynomial sameWords polynomial polynomialFrom factorial isChallenge arePositions positionsBelow ascends allWithin drawBits bitsFrom
-    bitAt accepts sampleAt sample baseSample atOrBelow expWith expScaled reciprocal scaled evaluate squared squarings sampledBy
-    accepted drawY samplesFrom drawEntries entriesFrom attemptEntries placesUp placesDown filledPart respondedBy responseBit
-    responseZ responseOf measuresOf acceptsBy allPass coshPasses squareSum innerProduct product outputsFrom outputAt termAt respondEntries acceptanceEntries
-    productEntries outputEntriesFrom outputEntries seen readList zOfRespond
+unfolding wholeCalls lists drawing drawOver wordsOf oneToEight responding callsOver rejecting callsRejecting refusedDraw refusedRespond
+    callsRefused Linked NoneRefused history seen render renderEvent
 demand3-instance =
-    let linked : Linked start (replicate 8 (pos 0)) calls = ((λ h. refl), ((λ h. refl), tt)) in
-    let linked′ : Linked start (replicate 8 (pos 1)) calls′ = ((λ h. refl), ((λ h. refl), tt)) in
-    let none-refused : NoneRefused start calls = (refl, (refl, tt)) in
-    let none-refused′ : NoneRefused start calls′ = (refl, (refl, tt)) in
-    let alike : AllAlike calls calls′ = (refl, (refl, tt)) in
-    let agreeing : Agreeing start calls calls′ = (draws-agree, (responds-agree, tt)) in
-    let linked-refused : Linked start (replicate 8 (pos 0)) callsRefused = ((λ h. refl), ((λ h. absurd (nonzero h)), ((λ h. absurd (nonzero h)), ((λ h. refl), tt)))) in
+    let premises : Meet (pos 0) (pos 1) calls calls′ = one-more (pos 0) (pos 1) none in
+    let linked = premises .linked in
+    let linked-refused : Linked start (replicate 8 (pos 0)) callsRefused = ((λ h. refl), (refused, (refused, ((λ h. refl), tt)))) in
     let linked-rejecting : Linked start (replicate 8 (pos 0)) callsRejecting = ((λ h. refl), ((λ h. refl), tt)) in
-    let same = demand3 4 4 (replicate 8 (pos 0)) (replicate 8 (pos 1)) calls calls′ linked linked′ .1 refl none-refused none-refused′ alike agreeing in
+    let halves = demand3 4 4 (replicate 8 (pos 0)) (replicate 8 (pos 1)) calls calls′ linked (premises .linked′) in
+    let same = halves .1 refl (premises .none-refused) (premises .none-refused′) (premises .alike) (premises .agreeing) in
     let told = demand3 4 4 (replicate 8 (pos 0)) (replicate 8 (pos 0)) calls callsRejecting linked linked-rejecting .0 .0 in
     record {
-      linked = linked;
-      linked′ = linked′;
-      none-refused = none-refused;
-      none-refused′ = none-refused′;
-      alike = alike;
-      agreeing = agreeing;
+      premises = premises;
       words-differ = λ e. let z = ap (λ (l : List ℕ). getD l 32 0) e in omega arith;
       seen-same = same .0;
       reads-same = same .1;
       seen-is = refl;
-      reads-are = refl;
+      reads-are = read-list-is-rendered start calls;
       history-is = refl;
-      history-is′ = refl;
+      history-is′ = sym (halves .0 .0 (same .1));
       seen-refused = refl;
       linked-refused = linked-refused;
       history-is-refused = refl;
@@ -199,5 +148,5 @@ demand3-instance =
       none-refused-rejecting = (refl, (refl, tt));
       history-is-rejecting = refl;
       reads-differ = λ e. tells-apart (replicate 7 true) (replicate 8 true) (told e);
-      any-number = any-number;
+      any-number = rounds-meet;
     }

@@ -9,17 +9,15 @@ use lib.Pow.{pow-pos}
 use lib.Dec.{leb, ltb, eqb}
 use lib.IntN.{ℤ, pos, negsuc}
 use borrow.Author.Tests.{lt-ltb, le-ltb, lt-leb}
-use Rattle.checks.specs.Checks.{allBelow}
-use Rattle.signed.specs.Vectors.{squareSum, innerProduct}
-use Rattle.exponential.specs.Exponential.{factorial, entriesFrom, polynomial, reciprocal, scaled, evaluate, squared, squarings, expScaled, expWith, exp, expOrRefusal}
-use Rattle.base_sample.specs.BaseSample.{wordsSmall, neverFalls, isCdt, atOrBelow, baseSample}
-use Rattle.known_points.specs.EvenThresholds.{thresholdsFrom, evenThresholds}
+use Rattle.signed.specs.Vectors.{squareSum}
+use Rattle.base_sample.specs.BaseSample.{neverFalls, baseSample}
+use Rattle.known_points.specs.EvenThresholds.{evenThresholds}
 use Rattle.base_sample.proofs.BaseSampleLaws.{rising, base-sample-exactly, base-sample-rises}
-use Rattle.attempt.specs.Attempt.{accepts, sample, bitAt, sampleAt}
-use Rattle.challenge.specs.Product.{termAt, outputAt, outputsFrom, product}
+use Rattle.attempt.specs.Attempt.{accepts, sample}
 use Rattle.acceptance.specs.Acceptance.{coshPasses, allPass, acceptsBy}
 use Rattle.response.specs.Response.{responseOf, responseZ, measuresOf, responseBit}
 use Rattle.known_points.specs.KnownPoints.{e, oneHighFrom, oneHigh, KnownPoints}
+use Rattle.known_points.proofs.Computing.{tables, refusals, exponentials, attempts, responses}
 
 -- ** Words
 
@@ -59,6 +57,10 @@ ten-above cdt d d′ never ten h = omega (arith, at-most-10 cdt d′ never, base
 zero-below : (cdt : List ℕ) (d d′ : ℕ) → baseSample cdt d′ ≡ 0 → d ≤ d′ → baseSample cdt d ≡ 0
 zero-below cdt d d′ none h = omega (arith, base-sample-rises cdt d d′ h)
 
+-- x over document 01's thresholds, by the high and the low part of d
+abbrev byParts : (high low : ℕ) → ℕ
+byParts high low = baseSample evenThresholds (high * 2 ^ 62 + low)
+
 -- ** Respond
 
 cosh-one : (word : ℕ) → coshPasses (2 ^ 62) word ≡ true
@@ -79,17 +81,15 @@ unfolding responseBit acceptsBy allPass measuresOf
 a-too-large by y sc words h = rw (lt-leb (squareSum sc) 46225 h)
 
 -- nor where Z is
-z-too-large : (by : ℕ → ℕ) (y sc : List ℤ) (words : List ℕ) → 165688384 < squareSum (responseZ y sc words) → responseBit by y sc words ≡ false
+z-too-large : (by : ℕ → ℕ) (y sc : List ℤ) (words : List ℕ) → 165688384 < squareSum (responseZ y sc words)
+    → responseBit by y sc words ≡ false
 unfolding responseBit acceptsBy allPass measuresOf
 z-too-large by y sc words h = rw (lt-leb (squareSum (responseZ y sc words)) 165688384 h, and-false (leb (squareSum sc) 46225))
 
 -- ** The points
 
 pub known-points : KnownPoints
-unfolding evenThresholds thresholdsFrom oneHigh oneHighFrom isCdt wordsSmall neverFalls allBelow baseSample atOrBelow exp
-    expOrRefusal expWith expScaled polynomial entriesFrom factorial reciprocal scaled evaluate squared squarings bitAt sampleAt
-    accepts sample product outputsFrom outputAt termAt responseZ responseOf responseBit acceptsBy measuresOf allPass coshPasses
-    squareSum innerProduct
+unfolding tables refusals exponentials attempts responses oneHigh oneHighFrom
 known-points = record {
   lowest-d = refl;
   d-below-first = refl;
@@ -101,17 +101,19 @@ known-points = record {
   minus-one = λ cdt word₀ word₁ word₃ x-0. ap (λ (x : ℕ). sample x 1 true) x-0;
   minus-zero-size = λ word₀ word₁ word₃. refl;
   minus-zero-sign = λ word₀ word₁ word₃. refl;
-  minus-zero-bit = λ cdt word₀ word₁ word₃ x-0. ap (λ (x : ℕ). accepts e x 0 true (word₃ % 2 ^ 62)) x-0 ∙ and-false (ltb (word₃ % 2 ^ 62) (2 ^ 62));
+  minus-zero-bit = λ cdt word₀ word₁ word₃ x-0.
+      ap (λ (x : ℕ). accepts e x 0 true (word₃ % 2 ^ 62)) x-0 ∙ and-false (ltb (word₃ % 2 ^ 62) (2 ^ 62));
   zero-sample = λ cdt word₀ word₁ word₃ x-0. ap (λ (x : ℕ). sample x 0 false) x-0;
-  zero-bit = λ cdt word₀ word₁ word₃ x-0. ap (λ (x : ℕ). accepts e x 0 false (word₃ % 2 ^ 62)) x-0 ∙ ap (λ t. t && true) (low-below-one word₃);
+  zero-bit = λ cdt word₀ word₁ word₃ x-0.
+      ap (λ (x : ℕ). accepts e x 0 false (word₃ % 2 ^ 62)) x-0 ∙ ap (λ t. t && true) (low-below-one word₃);
   challenge-1 = λ s2. refl;
   challenge-0-3 = λ s2. refl;
   cosh-at-one = cosh-one;
   cosh-at-zero = cosh-zero;
   even-is-cdt = refl;
   one-high-is-cdt = refl;
-  d-below-by-62-bits = λ top₀ top₁. ap₂ (λ (high low : ℕ). baseSample evenThresholds (high * 2 ^ 62 + low)) (top-cut top₀ (2 ^ 40 - 1)) (top-cut top₁ (2 ^ 62 - 1));
-  d-at-by-62-bits = λ top₀ top₁. ap₂ (λ (high low : ℕ). baseSample evenThresholds (high * 2 ^ 62 + low)) (top-cut top₀ (2 ^ 40)) (top-alone top₁);
+  d-below-by-62-bits = λ top₀ top₁. ap₂ byParts (top-cut top₀ (2 ^ 40 - 1)) (top-cut top₁ (2 ^ 62 - 1));
+  d-at-by-62-bits = λ top₀ top₁. ap₂ byParts (top-cut top₀ (2 ^ 40)) (top-alone top₁);
   low-below = refl;
   low-at = refl;
   low-above = refl;

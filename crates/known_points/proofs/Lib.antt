@@ -1,3 +1,10 @@
+pub mod Computing
 pub mod KnownPoints
-pub mod Examples
+pub mod ExponentialNumbers
+pub mod SampleNumbers
+pub mod RespondNumbers
+pub mod OpeningRefusals
+pub mod DrawRefusals
+pub mod RespondRefusals
+pub mod ReadLists
 pub mod Demand3Instance

@@ -13,7 +13,8 @@ use Rattle.response.specs.Response.{respondEntries}
 use Rattle.session.specs.declared.Session.{Session}
 use Rattle.session.specs.Calls.{opened, Draw, Respond}
 use Rattle.session.specs.Histories.{Call, draw, respond, Linked, readList, Event, drew, answered, history}
-use Rattle.session.specs.Demand3.{NoneRefused, AllAlike, Agreeing, Seen, sampled, answer, seen}
+use Rattle.session.specs.Demand3.{NoneRefused, Seen, sampled, answer, seen}
+use Rattle.session.specs.PremiseLaws.{Premises}
 
 -- ** What is lent
 
@@ -112,27 +113,19 @@ respondRefusedBy2 = answer
 
 -- and of the respond: its bit is 1, y is all zero, and z
 abbrev pub answeredBy : (z : List ℤ) → Seen
-answeredBy z = answer (record { answer = record { refusal = 0; bit = true; entries = 63 }; session = record { degree = 4; drawn = false } }) (replicate 8 (pos 0)) z
+answeredBy z = answer
+    (record { answer = record { refusal = 0; bit = true; entries = 63 }; session = record { degree = 4; drawn = false } })
+    (replicate 8 (pos 0)) z
 
 -- ** What demand 3 says of them
 
--- all that the second half asks for, of so many rounds
-pub record AnyNumber (count : ℕ) : Type 0 where
-  pub linked : Linked start (replicate 8 (pos 0)) (rounds 0 0 count)
-  pub linked′ : Linked start (replicate 8 (pos 0)) (rounds 7 9 count)
-  pub none-refused : NoneRefused start (rounds 0 0 count)
-  pub none-refused′ : NoneRefused start (rounds 7 9 count)
-  pub alike : AllAlike (rounds 0 0 count) (rounds 7 9 count)
-  pub agreeing : Agreeing start (rounds 0 0 count) (rounds 7 9 count)
+-- two lists of calls meet all that the second half asks for, from a y of eight times this value and a y′ of eight times that
+abbrev pub Meet : (before before′ : ℤ) (calls calls′ : List Call) → Type 0
+Meet before before′ calls calls′ = Premises start start (replicate 8 before) (replicate 8 before′) calls calls′
 
 pub record Demand3Instance : Type 0 where
-  -- all that the second half asks for
-  pub linked : Linked start (replicate 8 (pos 0)) calls
-  pub linked′ : Linked start (replicate 8 (pos 1)) calls′
-  pub none-refused : NoneRefused start calls
-  pub none-refused′ : NoneRefused start calls′
-  pub alike : AllAlike calls calls′
-  pub agreeing : Agreeing start calls calls′
+  -- the first two lists meet all that the second half asks for
+  pub premises : Meet (pos 0) (pos 1) calls calls′
   -- and yet the words that the two draws are lent differ
   pub words-differ : drawing 0 (pos 0) 0 .words ≡ drawing 7 (pos 1) 9 .words → ⊥
   -- what the second half gives
@@ -155,5 +148,5 @@ pub record Demand3Instance : Type 0 where
   pub none-refused-rejecting : NoneRefused start callsRejecting
   pub history-is-rejecting : history start callsRejecting ≡ drawnAndAnswered (false ∷ replicate 8 true)
   pub reads-differ : readList start calls ≡ readList start callsRejecting → ⊥
-  -- any number of calls meet all that the second half asks for
-  pub any-number : (count : ℕ) → AnyNumber count
+  -- so do lists of any number of calls
+  pub any-number : (count : ℕ) → Meet (pos 0) (pos 0) (rounds 0 0 count) (rounds 7 9 count)

@@ -2,7 +2,7 @@
 -- the contracts cite give. A word that a point leaves open is any word; negsuc k is -(k + 1). proofs/KnownPoints.antt has the one proof of
 -- all. Assumes nothing.
 use mathlib.Core.Path.{_≡_}
-use mathlib.Core.Bool.{true, false}
+use mathlib.Core.Bool.{Bool, true, false}
 use mathlib.Core.List.{List, [], _∷_, _++_}
 use Prim.Native.Nat.{ℕ, zero, suc, _+_, _-_, _*_, _^_, _<_}
 use lib.IntN.{ℤ, pos, negsuc}
@@ -51,6 +51,10 @@ oneToFour = pos 1 ∷ pos 2 ∷ pos 3 ∷ pos 4 ∷ []
 abbrev pub withZeros : (value : ℤ) → List ℤ
 withZeros value = value ∷ replicate 7 (pos 0)
 
+-- the bit of a response over such a y and Sc
+abbrev pub bitOver : (y sc : ℤ) (words : List ℕ) → Bool
+bitOver y sc words = responseBit e (withZeros y) (withZeros sc) words
+
 -- ** The points
 
 pub record KnownPoints : Type 0 where
@@ -68,14 +72,18 @@ pub record KnownPoints : Type 0 where
   -- e(0) = 2 ^ 62
   pub exp-0 : exp 0 ≡ 2 ^ 62
   -- x = 0, word 2 = 257: sample -1
-  pub minus-one : (cdt : List ℕ) (word₀ word₁ word₃ : ℕ) → baseSampleBy cdt word₀ word₁ ≡ 0 → sampleAt cdt (four word₀ word₁ 257 word₃) 0 ≡ negsuc 0
+  pub minus-one : (cdt : List ℕ) (word₀ word₁ word₃ : ℕ) → baseSampleBy cdt word₀ word₁ ≡ 0
+      → sampleAt cdt (four word₀ word₁ 257 word₃) 0 ≡ negsuc 0
   -- x = 0, word 2 = 256: size 0, sign 1, bit 0
   pub minus-zero-size : (word₀ word₁ word₃ : ℕ) → size 0 (lowBitsAt (four word₀ word₁ 256 word₃) 0) ≡ 0
   pub minus-zero-sign : (word₀ word₁ word₃ : ℕ) → negativeAt (four word₀ word₁ 256 word₃) 0 ≡ true
-  pub minus-zero-bit : (cdt : List ℕ) (word₀ word₁ word₃ : ℕ) → baseSampleBy cdt word₀ word₁ ≡ 0 → bitAt e cdt (four word₀ word₁ 256 word₃) 0 ≡ false
+  pub minus-zero-bit : (cdt : List ℕ) (word₀ word₁ word₃ : ℕ) → baseSampleBy cdt word₀ word₁ ≡ 0
+      → bitAt e cdt (four word₀ word₁ 256 word₃) 0 ≡ false
   -- word 2 = 0, x = 0: sample 0, bit 1 for every word 3
-  pub zero-sample : (cdt : List ℕ) (word₀ word₁ word₃ : ℕ) → baseSampleBy cdt word₀ word₁ ≡ 0 → sampleAt cdt (four word₀ word₁ 0 word₃) 0 ≡ pos 0
-  pub zero-bit : (cdt : List ℕ) (word₀ word₁ word₃ : ℕ) → baseSampleBy cdt word₀ word₁ ≡ 0 → bitAt e cdt (four word₀ word₁ 0 word₃) 0 ≡ true
+  pub zero-sample : (cdt : List ℕ) (word₀ word₁ word₃ : ℕ) → baseSampleBy cdt word₀ word₁ ≡ 0
+      → sampleAt cdt (four word₀ word₁ 0 word₃) 0 ≡ pos 0
+  pub zero-bit : (cdt : List ℕ) (word₀ word₁ word₃ : ℕ) → baseSampleBy cdt word₀ word₁ ≡ 0
+      → bitAt e cdt (four word₀ word₁ 0 word₃) 0 ≡ true
   -- n = 4, s1 = 1, 2, 3, 4: challenge 1 gives -4, 1, 2, 3; challenge 0, 3 gives -1, -1, -1, 5; whatever s2 is
   pub challenge-1 : (s2 : List ℤ) → take 4 (product (oneToFour ++ s2) 4 (1 ∷ [])) ≡ negsuc 3 ∷ pos 1 ∷ pos 2 ∷ pos 3 ∷ []
   pub challenge-0-3 : (s2 : List ℤ) → take 4 (product (oneToFour ++ s2) 4 (0 ∷ 3 ∷ [])) ≡ negsuc 0 ∷ negsuc 0 ∷ negsuc 0 ∷ pos 5 ∷ []
@@ -130,8 +138,10 @@ pub record KnownPoints : Type 0 where
   --
   -- ** Our own: challenge product
   -- the second half uses s2 in the same way, whatever s1 is
-  pub second-half-1 : (a b c d : ℤ) → drop 4 (product (a ∷ b ∷ c ∷ d ∷ oneToFour) 4 (1 ∷ [])) ≡ negsuc 3 ∷ pos 1 ∷ pos 2 ∷ pos 3 ∷ []
-  pub second-half-0-3 : (a b c d : ℤ) → drop 4 (product (a ∷ b ∷ c ∷ d ∷ oneToFour) 4 (0 ∷ 3 ∷ [])) ≡ negsuc 0 ∷ negsuc 0 ∷ negsuc 0 ∷ pos 5 ∷ []
+  pub second-half-1 : (a b c d : ℤ) → drop 4 (product (a ∷ b ∷ c ∷ d ∷ oneToFour) 4 (1 ∷ []))
+      ≡ negsuc 3 ∷ pos 1 ∷ pos 2 ∷ pos 3 ∷ []
+  pub second-half-0-3 : (a b c d : ℤ) → drop 4 (product (a ∷ b ∷ c ∷ d ∷ oneToFour) 4 (0 ∷ 3 ∷ []))
+      ≡ negsuc 0 ∷ negsuc 0 ∷ negsuc 0 ∷ pos 5 ∷ []
   --
   -- ** Our own: respond
   -- A is at most 215 ^ 2
@@ -141,10 +151,12 @@ pub record KnownPoints : Type 0 where
   -- g is bit 0 of word 0, and its other bits do not count: z = y + Sc where it is 0, else y - Sc
   pub g-0 : (rest : ℕ) → subtracts (2 * rest) ≡ false
   pub g-1 : (rest : ℕ) → subtracts (2 * rest + 1) ≡ true
-  pub z-plus : (rest word₁ word₂ : ℕ) → responseZ (pos 10 ∷ pos 2 ∷ []) (pos 3 ∷ negsuc 4 ∷ []) (three (2 * rest) word₁ word₂) ≡ pos 13 ∷ negsuc 2 ∷ []
-  pub z-minus : (rest word₁ word₂ : ℕ) → responseZ (pos 10 ∷ pos 2 ∷ []) (pos 3 ∷ negsuc 4 ∷ []) (three (2 * rest + 1) word₁ word₂) ≡ pos 7 ∷ pos 7 ∷ []
+  pub z-plus : (rest word₁ word₂ : ℕ) → responseZ (pos 10 ∷ pos 2 ∷ []) (pos 3 ∷ negsuc 4 ∷ []) (three (2 * rest) word₁ word₂)
+      ≡ pos 13 ∷ negsuc 2 ∷ []
+  pub z-minus : (rest word₁ word₂ : ℕ) → responseZ (pos 10 ∷ pos 2 ∷ []) (pos 3 ∷ negsuc 4 ∷ []) (three (2 * rest + 1) word₁ word₂)
+      ≡ pos 7 ∷ pos 7 ∷ []
   -- A = 46,225 may pass: N1 is 0, and every word 1 passes; z = 0, so that I is 0, and every word 2 passes
-  pub largest-a : (word₁ word₂ : ℕ) → responseBit e (withZeros (negsuc 214)) (withZeros (pos 215)) (three 0 word₁ word₂) ≡ true
+  pub largest-a : (word₁ word₂ : ℕ) → bitOver (negsuc 214) (pos 215) (three 0 word₁ word₂) ≡ true
   -- a larger one never
   pub larger-a : (y sc : List ℤ) (words : List ℕ) → 46225 < squareSum sc → responseBit e y sc words ≡ false
   -- Z = 165,688,384 may pass: it is 64 * 1,609 ^ 2
@@ -152,13 +164,13 @@ pub record KnownPoints : Type 0 where
   -- a larger one never
   pub larger-z : (y sc : List ℤ) (words : List ℕ) → 165688384 < squareSum (responseZ y sc words) → responseBit e y sc words ≡ false
   -- word 1 = e(N1) - 1 passes and e(N1) does not, whatever its top two bits are: A = 0, N1 = 46,225; I = 0
-  pub word-1-below : (top word₂ : ℕ) → responseBit e (withZeros (pos 5)) (withZeros (pos 0)) (three 0 (top * 2 ^ 62 + 2797128963144291333) word₂) ≡ true
-  pub word-1-at : (top word₂ : ℕ) → responseBit e (withZeros (pos 5)) (withZeros (pos 0)) (three 0 (top * 2 ^ 62 + 2797128963144291334) word₂) ≡ false
+  pub word-1-below : (top word₂ : ℕ) → bitOver (pos 5) (pos 0) (three 0 (top * 2 ^ 62 + 2797128963144291333) word₂) ≡ true
+  pub word-1-at : (top word₂ : ℕ) → bitOver (pos 5) (pos 0) (three 0 (top * 2 ^ 62 + 2797128963144291334) word₂) ≡ false
   -- the largest word 2 that passes, and the next: A = 46,225, and I is 46,225 where g is 0, -46,225 where it is 1; N2 = 92,450
-  pub word-2-below : (top word₁ : ℕ) → responseBit e (withZeros (pos 0)) (withZeros (pos 215)) (three 0 word₁ (top * 2 ^ 62 + 2988622833037856500)) ≡ true
-  pub word-2-above : (top word₁ : ℕ) → responseBit e (withZeros (pos 0)) (withZeros (pos 215)) (three 0 word₁ (top * 2 ^ 62 + 2988622833037856501)) ≡ false
-  pub word-2-below-minus : (top word₁ : ℕ) → responseBit e (withZeros (pos 0)) (withZeros (pos 215)) (three 1 word₁ (top * 2 ^ 62 + 2988622833037856500)) ≡ true
-  pub word-2-above-minus : (top word₁ : ℕ) → responseBit e (withZeros (pos 0)) (withZeros (pos 215)) (three 1 word₁ (top * 2 ^ 62 + 2988622833037856501)) ≡ false
+  pub word-2-below : (top word₁ : ℕ) → bitOver (pos 0) (pos 215) (three 0 word₁ (top * 2 ^ 62 + 2988622833037856500)) ≡ true
+  pub word-2-above : (top word₁ : ℕ) → bitOver (pos 0) (pos 215) (three 0 word₁ (top * 2 ^ 62 + 2988622833037856501)) ≡ false
+  pub word-2-below-minus : (top word₁ : ℕ) → bitOver (pos 0) (pos 215) (three 1 word₁ (top * 2 ^ 62 + 2988622833037856500)) ≡ true
+  pub word-2-above-minus : (top word₁ : ℕ) → bitOver (pos 0) (pos 215) (three 1 word₁ (top * 2 ^ 62 + 2988622833037856501)) ≡ false
   -- the cosh test at its edge: both sides have the same high word, and their low words decide
   pub cosh-low-below : coshPasses (e 92450) 2988622833037856500 ≡ true
   pub cosh-low-above : coshPasses (e 92450) 2988622833037856501 ≡ false

@@ -1,0 +1,61 @@
+-- Names for definitions that are computed together. A proof that unfolds one of these names unfolds all that stands on the name's own
+-- `unfolding` line: where a rule gets one more definition, the definition is added here, and no example's proof moves. Assumes nothing.
+use Rattle.read_list.specs.Entries.{placesUp, placesDown, filledPart}
+use Rattle.signed.specs.Vectors.{allWithin, squareSum, innerProduct}
+use Rattle.checks.specs.Checks.{among, isDegree, allBelow, firstRefusal}
+use Rattle.exponential.specs.Exponential.{factorial, entriesFrom as polynomialFrom, polynomial, sameWords, isPolynomial}
+use Rattle.exponential.specs.Exponential.{reciprocal, scaled, evaluate, squared, squarings, expScaled, expWith, exp, expOrRefusal}
+use Rattle.base_sample.specs.BaseSample.{wordsSmall, neverFalls, isCdt, atOrBelow, baseSample}
+use Rattle.known_points.specs.EvenThresholds.{thresholdsFrom, evenThresholds}
+use Rattle.attempt.specs.Attempt.{accepts, sample, bitAt, sampleAt, attemptEntries}
+use Rattle.sampler.specs.Draw.{bitsFrom, drawBits, accepted, samplesFrom, drawY, entriesFrom, drawEntries, sampledBy}
+use Rattle.challenge.specs.Challenge.{positionsBelow, ascends, arePositions, isChallenge}
+use Rattle.challenge.specs.Product.{termAt, outputAt, outputsFrom, product, outputEntries, outputEntriesFrom, productEntries}
+use Rattle.acceptance.specs.Acceptance.{coshPasses, allPass, acceptsBy, acceptanceEntries}
+use Rattle.response.specs.Response.{responseOf, responseZ, measuresOf, responseBit, respondEntries, respondedBy}
+use Rattle.refusals.specs.Refusals.{openRefusal, drawRefusal, noiseRefusal, respondRefusal}
+use Rattle.session.specs.Calls.{opened, refusalOfDraw, bitsOfDraw, drawRefused, drawServed, drawLeft}
+use Rattle.session.specs.Calls.{refusalOfRespond, bitOfRespond, zOfRespond, respondRefused, respondServed, respondLeft}
+use Rattle.session.specs.Histories.{leftBy, eventOf}
+
+-- the polynomial table, and the CDT table of the known points
+unfoldable pub tables : Unit {0}
+unfolding polynomial polynomialFrom factorial evenThresholds thresholdsFrom
+tables = tt
+
+unfoldable pub refusals : Unit {0}
+unfolding openRefusal drawRefusal respondRefusal noiseRefusal firstRefusal isDegree among isCdt wordsSmall neverFalls allBelow
+    isPolynomial sameWords isChallenge arePositions positionsBelow ascends allWithin
+refusals = tt
+
+unfoldable pub exponentials : Unit {0}
+unfolding exp expOrRefusal expWith expScaled reciprocal scaled evaluate squared squarings
+exponentials = tt
+
+-- bits and samples of attempts
+unfoldable pub attempts : Unit {0}
+unfolding baseSample atOrBelow bitAt accepts sampleAt sample
+attempts = tt
+
+-- sums of squares and of products
+unfoldable pub sums : Unit {0}
+unfolding squareSum innerProduct
+sums = tt
+
+-- the challenge product, responses and their bits
+unfoldable pub responses : Unit {0}
+unfolding sums product outputsFrom outputAt termAt responseZ responseOf responseBit measuresOf acceptsBy allPass coshPasses
+responses = tt
+
+-- read lists
+unfoldable pub lists : Unit {0}
+unfolding filledPart drawEntries entriesFrom attemptEntries respondEntries productEntries outputEntriesFrom outputEntries acceptanceEntries
+    placesUp placesDown
+lists = tt
+
+-- whole calls
+unfoldable pub wholeCalls : Unit {0}
+unfolding tables refusals exponentials attempts responses opened leftBy eventOf
+    drawLeft drawServed drawRefused refusalOfDraw bitsOfDraw drawBits bitsFrom sampledBy accepted drawY samplesFrom
+    respondLeft respondServed respondRefused refusalOfRespond bitOfRespond zOfRespond respondedBy
+wholeCalls = tt
