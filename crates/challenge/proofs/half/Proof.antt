@@ -27,8 +27,8 @@ abbrev μ-loop : tie.MeasureT-loop
 abbrev start : tie.At-loop Inv-loop μ-loop → tie.Start Inv-loop μ-loop
 start c = c .before .before .before
 
-abbrev turn : tie.After-output-at Inv-loop μ-loop → tie.In-loop Inv-loop μ-loop
-turn c = c .before .before
+abbrev turn : tie.After-output-at-arg Inv-loop μ-loop → tie.In-loop Inv-loop μ-loop
+turn c = c .before
 
 abbrev output-made : tie.After-slice-known2 Inv-loop μ-loop → tie.After-output-at Inv-loop μ-loop
 output-made c = c .before .before
@@ -48,12 +48,12 @@ room c =
     omega (arith, c .before .loop .inv .place-is, more, s .pre .1 .2)
 
 -- it is read back as it is
-output-is : (c : tie.After-output-at Inv-loop μ-loop) → toZ w32 (ofZ w32 (c .output-at .result)) ≡ next-output (turn c)
+output-is : (c : tie.After-output-at Inv-loop μ-loop) → toZ w32 (ofZ w32 (c .output-at .result)) ≡ next-output (turn (c .before))
 output-is c = read-back (record { sfits = c .output-at .ok }) ∙ c .output-at .ensures .0
 
--- and so is its square
+-- and what is added to the sum is its square
 square-is : (c : tie.After-square Inv-loop μ-loop)
-    → let v = next-output (turn (output-made (c .before))) in c .square .result ≡ natAbs v * natAbs v
+    → let v = next-output (turn (output-made (c .before) .before)) in c .square .result ≡ natAbs v * natAbs v
 square-is c = c .square .ensures ∙ ap (λ (v : ℤ). natAbs v * natAbs v) (output-is (output-made (c .before)))
 
 -- ** What the code asks for
@@ -63,7 +63,7 @@ loop-holds c = half-start _ _ _ _ _ _ _
 
 output-at-requires : tie.Need-output-at-requires Inv-loop μ-loop
 output-at-requires c κs =
-    let i = c .before in
+    let i = turn c in
     let s = start (i .before) .pre in
     (s .0, (s .1 .0, i .loop-test .taken, omega (arith, room i, i .before .loop .inv .list-size)))
 
@@ -79,7 +79,7 @@ slice-set-from-output c = search needs
 square-requires : tie.Need-square-requires Inv-loop μ-loop
 square-requires c κs =
     let o = output-made c in
-    let l = turn o .before in
+    let l = turn (o .before) .before in
     let s = start l in
     let a = s .args in
     let within = output-within (a .key .now) (a .n) (s .pre .0 .small) (a .base) (l .loop .i) (a .challenge .now) in
@@ -87,14 +87,14 @@ square-requires c κs =
 
 add-squares : tie.Need-add-squares Inv-loop μ-loop
 add-squares c =
-    let i = turn (output-made (c .before)) in
+    let i = turn (output-made (c .before) .before) in
     let s = start (i .before) in
     let a = s .args in
     let bound = half-bound (a .key .now) (a .n) (a .base) (a .challenge .now) (s .pre .0 .small) (s .pre .0 .few) in
     record { fits = omega (arith, square-is c, square-fits (i .before .loop .inv) (i .loop-test .taken), bound, s .pre .0 .degree) }
 
 add-place : tie.Need-add-place Inv-loop μ-loop
-add-place c = omega (arith, room (turn (output-made (c .before))))
+add-place c = omega (arith, room (turn (output-made (c .before) .before)))
 
 add-i : tie.Need-add-i Inv-loop μ-loop
 add-i c = search needs
@@ -105,7 +105,7 @@ loop-less c = omega arith
 loop-again : tie.Need-loop-again Inv-loop μ-loop
 loop-again c =
     let o = output-made (c .before) in
-    let i = turn o in
+    let i = turn (o .before) in
     let l = i .before .loop in
     half-more (l .inv) (i .loop-test .taken)
     (ap (λ (v : ℤ). set (l .z) (start (i .before) .args .base + l .i) v) (output-is o))
