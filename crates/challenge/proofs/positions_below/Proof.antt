@@ -73,4 +73,5 @@ returns-2 c = all-done _ _ _ (c .before .loop .inv .0) (c .loop-test .left) (c .
 pub positions-below-spec : {M : Type 1} → statement M
 positions-below-spec =
     tie.close
-    (tie.spec Inv-loop μ-loop loop-holds mul-if1 shared-slice-read-if1 cast-if1 returns add-k loop-less loop-again returns-2)
+    (tie.spec Inv-loop μ-loop loop-holds mul-if1 shared-slice-read-if1 cast-if1 returns add-k loop-less loop-again
+    returns-2)

@@ -170,6 +170,6 @@ returns-2 c =
 pub draw-spec : {M : Type 1} → statement M
 draw-spec =
     tie.close
-    (tie.spec Inv-loop μ-loop mul-want note-requires
-    loop-holds attempt-requires cast-k add-k add-at add-t loop-less loop-again
-    note-requires-2 add-entries zero-all-requires same-length same-length-2 returns same-length-3 same-length-4 returns-2)
+    (tie.spec Inv-loop μ-loop mul-want note-requires loop-holds attempt-requires cast-k add-k add-at add-t loop-less
+    loop-again note-requires-2 add-entries zero-all-requires same-length same-length-2 returns same-length-3
+    same-length-4 returns-2)
