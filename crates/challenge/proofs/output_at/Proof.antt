@@ -25,8 +25,11 @@ abbrev μ-loop : tie.MeasureT-loop
 abbrev start : tie.At-loop Inv-loop μ-loop → tie.Start Inv-loop μ-loop
 start c = c .before .before .before
 
-abbrev turn : tie.After-term-at-arg Inv-loop μ-loop → tie.In-loop Inv-loop μ-loop
-turn c = c .before .before
+abbrev turn : tie.After-shared-slice-known2 Inv-loop μ-loop → tie.In-loop Inv-loop μ-loop
+turn c = c .before
+
+abbrev position-read : tie.After-term-at-arg Inv-loop μ-loop → tie.After-shared-slice-known2 Inv-loop μ-loop
+position-read c = c .before
 
 abbrev term-made : tie.After-slice-known2 Inv-loop μ-loop → tie.After-term-at Inv-loop μ-loop
 term-made c = c .before .before
@@ -41,7 +44,7 @@ module _ (c : tie.After-term-at Inv-loop μ-loop) where
   -- and small
   term-small : natAbs (c .term-at .result) ≤ 7
   term-small =
-      let s = start (turn (c .before) .before) in
+      let s = start (turn (position-read (c .before)) .before) in
       let a = s .args in
       rw (c .term-at .ensures .0) (term-within (a .key .now) (a .n) (a .base) (a .i) _ 7 (s .pre .0 .small))
 
@@ -57,14 +60,14 @@ shared-slice-read-c : tie.Need-shared-slice-read-c Inv-loop μ-loop
 shared-slice-read-c c = search needs
 
 cast-c : tie.Need-cast-c Inv-loop μ-loop
-cast-c c = record { fits = omega (arith, c .shared-slice-known2 .given (c .before .before .loop .k)) }
+cast-c c = record { fits = omega (arith, c .shared-slice-known2 .given (turn c .before .loop .k)) }
 
 add-term-at : tie.Need-add-term-at Inv-loop μ-loop
 add-term-at c = search needs
 
 term-at-requires : tie.Need-term-at-requires Inv-loop μ-loop
 term-at-requires c κs =
-    let i = turn c in
+    let i = turn (position-read c) in
     let l = i .before .loop in
     let s = start (i .before) in
     let p = s .pre .0 in
@@ -74,7 +77,7 @@ term-at-requires c κs =
 plus-requires : tie.Need-plus-requires Inv-loop μ-loop
 plus-requires c κs =
     let t = term-made c in
-    let sum = turn (t .before) .before .loop .inv in
+    let sum = turn (position-read (t .before)) .before .loop .inv in
     rw (term-is t) (omega (arith, term-small t, sum .small, sum .turns))
 
 add-k : tie.Need-add-k Inv-loop μ-loop
@@ -86,7 +89,7 @@ loop-less c = omega arith
 loop-again : tie.Need-loop-again Inv-loop μ-loop
 loop-again c =
     let t = term-made (c .before) in
-    let i = turn (t .before) in
+    let i = turn (position-read (t .before)) in
     let l = i .before .loop in
     let term = ap (λ (r : ℤ). toZ w32 (l .sum) +ℤ r) (term-is t ∙ t .term-at .ensures .0) in
     sum-more (l .inv) (i .loop-test .taken) (start (i .before) .pre .0 .small) (t .term-at .ensures .1)
