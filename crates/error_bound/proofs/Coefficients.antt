@@ -14,7 +14,8 @@ unfolding productAbove
 product-above j zero = rw add-zero (omega arith)
 product-above j (suc count) =
     let e : j + suc count ≡ suc (j + count) = omega arith in
-    rw (e, factorial-suc (j + count)) (mul-assoc (suc (j + count)) (productAbove j count) (factorial j) ∙ ap (λ (x : ℕ). suc (j + count) * x) (product-above j count))
+    rw (e, factorial-suc (j + count))
+    (mul-assoc (suc (j + count)) (productAbove j count) (factorial j) ∙ ap (λ (x : ℕ). suc (j + count) * x) (product-above j count))
 
 -- the product of j + 1 to 20 is 20! / j!
 factorial-ratio : (j : ℕ) → j ≤ 20 → productAbove j (20 - j) * factorial j ≡ factorial 20
@@ -34,7 +35,8 @@ scale-suc q j h =
 
 pub coefficient-factorial : (q j : ℕ) → j ≤ 20 → coefficient q j * factorial j ≡ scale q j
 unfolding coefficient scale
-coefficient-factorial q j h = mul-assoc (q ^ (20 - j)) (productAbove j (20 - j)) (factorial j) ∙ ap (λ (x : ℕ). q ^ (20 - j) * x) (factorial-ratio j h)
+coefficient-factorial q j h =
+    mul-assoc (q ^ (20 - j)) (productAbove j (20 - j)) (factorial j) ∙ ap (λ (x : ℕ). q ^ (20 - j) * x) (factorial-ratio j h)
 
 pub common-denominator : CommonDenominator
 unfolding denominator scale

@@ -1,7 +1,8 @@
 -- How far the evaluation of the polynomial, step by step, is from the exact sum: 14 units at the end. Assumes nothing.
 use mathlib.Core.Path.{_≡_, refl, sym, ap, ap₂, _∙_}
 use Prim.Native.Nat.{ℕ, zero, suc, _+_, _-_, _*_, _/_, _%_, _^_, _≤_, _<_, min}
-use native.Mathlib.Nat.{le-trans, le-of-suc-le, mul-le-mul-left, mul-le-mul-right, pow-zero, pow-suc, div-add-mod', mod-lt, lt-div-mul-add, sub-add-cancel, sub-le, mul-div-le}
+use native.Mathlib.Nat.{le-trans, le-of-suc-le, mul-le-mul-left, mul-le-mul-right, pow-zero, pow-suc, div-add-mod', mod-lt}
+use native.Mathlib.Nat.{lt-div-mul-add, sub-add-cancel, sub-le, mul-div-le}
 use native.Mathlib.Numerals.{add-one}
 use native.Mathlib.Omega.{arith}
 use lib.Pow.{pow-pos}
@@ -14,7 +15,8 @@ use Rattle.exponential.proofs.Table.{factorial-pos, entry-low, product-small, s
 use Rattle.error_bound.proofs.ErrorStep.{step}
 use Rattle.error_bound.specs.ErrorBound.{InRange}
 use Rattle.error_bound.proofs.Near.{Near, quotient-high}
-use Rattle.error_bound.proofs.Coefficients.{scale, scale-suc, scale-top, scale-zero, coefficient-factorial, coefficient-le, coefficient-top, coefficient-zero}
+use Rattle.error_bound.proofs.Coefficients.{scale, scale-suc, scale-top, scale-zero, coefficient-factorial, coefficient-le}
+use Rattle.error_bound.proofs.Coefficients.{coefficient-top, coefficient-zero}
 use Rattle.error_bound.proofs.Scaled.{scaled-near, scaled-le}
 
 -- 7 / 3 units over (j + 1)!, in 240ths, rounded up; and 1 if 2 ^ 62 / j! is not whole
@@ -34,7 +36,8 @@ cut (suc r) f h = let e : min 1 (suc r) ≡ 1 = omega arith in rw e (omega arith
 
 entry-high : (j : ℕ) → 2 ^ 62 ≤ polynomialEntry j * factorial j + rest j * factorial j
 unfolding rest
-entry-high j = omega (arith, div-add-mod' (2 ^ 62) (factorial j), cut (2 ^ 62 % factorial j) (factorial j) (mod-lt (2 ^ 62) (factorial-pos j)))
+entry-high j =
+    omega (arith, div-add-mod' (2 ^ 62) (factorial j), cut (2 ^ 62 % factorial j) (factorial j) (mod-lt (2 ^ 62) (factorial-pos j)))
 
 -- The error of the value a before entry j, in 240ths of a unit: at most u above and at most l below the exact (p - m) / scale.
 record Close (q n j a p m u l : ℕ) : Type 0 where
@@ -106,7 +109,9 @@ module _ (q n : ℕ) where
   power-two-more : (k : ℕ) → n ^ suc (suc k) ≡ n ^ k * n * n
   power-two-more k = pow-suc n (suc k) ∙ ap (λ (x : ℕ). x * n) (pow-suc n k)
 
-  parts-sum : (i p m : ℕ) → lastParts q n (2 * i) p m ≡ (sum (λ (i : ℕ). size q n (2 * i)) i + n ^ (2 * i) * p, sum (λ (i : ℕ). size q n (2 * i + 1)) i + n ^ (2 * i) * m)
+  parts-sum : (i p m : ℕ)
+      → lastParts q n (2 * i) p m
+      ≡ (sum (λ (i : ℕ). size q n (2 * i)) i + n ^ (2 * i) * p, sum (λ (i : ℕ). size q n (2 * i + 1)) i + n ^ (2 * i) * m)
   unfolding lastParts sum
   parts-sum zero p m = rw pow-zero (ap₂ (λ (x y : ℕ). (x, y)) (omega arith) (omega arith))
   parts-sum (suc i) p m =
@@ -127,12 +132,15 @@ unfolding factorial
 whole-value a h = omega arith
 
 close-end : (q n : ℕ) → InRange q n → Close q n 0 (evaluate polynomial (scaled (reciprocal q) n) 20 (getD polynomial 20 0)) (added q n) (taken q n) (lastErrors 20 0 240 .0) (lastErrors 20 0 240 .1)
-close-end q n h = rw (table-at 20 (lit≤ tt), ← ap (λ (x : ℕ × ℕ). x .0) (last-parts q n), ← ap (λ (x : ℕ × ℕ). x .1) (last-parts q n)) (rw entry-top (close-all q n 20 1 1 0 0 240 h (lit≤ tt) (close-start q n)))
+close-end q n h =
+    rw (table-at 20 (lit≤ tt), ← ap (λ (x : ℕ × ℕ). x .0) (last-parts q n), ← ap (λ (x : ℕ × ℕ). x .1) (last-parts q n))
+    (rw entry-top (close-all q n 20 1 1 0 0 240 h (lit≤ tt) (close-start q n)))
 
 pub parts-ordered : (q n : ℕ) → InRange q n → taken q n ≤ added q n
 parts-ordered q n h = close-end q n h .ordered
 
-pub polynomial-near : (q n : ℕ) → InRange q n → Near 14 (evaluate polynomial (scaled (reciprocal q) n) 20 (getD polynomial 20 0)) (added q n - taken q n) (denominator q)
+pub polynomial-near : (q n : ℕ) → InRange q n
+    → Near 14 (evaluate polynomial (scaled (reciprocal q) n) 20 (getD polynomial 20 0)) (added q n - taken q n) (denominator q)
 polynomial-near q n h =
     let a = evaluate polynomial (scaled (reciprocal q) n) 20 (getD polynomial 20 0) in
     let c = close-end q n h in
