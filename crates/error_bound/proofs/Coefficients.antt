@@ -47,8 +47,10 @@ common-denominator q j h =
 -- coefficients grow at least by q downwards
 pub coefficient-le : (q j : ℕ) → j < 20 → q * coefficient q (suc j) ≤ coefficient q j
 coefficient-le q j h =
+    let next = ap (λ (x : ℕ). q * x) (coefficient-factorial q (suc j) h) in
+    let here = coefficient-factorial q j (omega arith) in
     le-of-mul-le-mul-right {k = factorial (suc j)}
-    (omega (arith, ap (λ (x : ℕ). q * x) (coefficient-factorial q (suc j) h), coefficient-factorial q j (omega arith), scale-suc q j h, mul-le-mul-left (coefficient q j) (factorial-le j)))
+    (omega (arith, next, here, scale-suc q j h, mul-le-mul-left (coefficient q j) (factorial-le j)))
     (factorial-pos (suc j))
 
 pub scale-top : (q : ℕ) → scale q 20 ≡ 2432902008176640000

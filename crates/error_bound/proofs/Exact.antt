@@ -148,4 +148,5 @@ unfolding Within
 within-is-near k l x y q n h near-x near-y =
     let d = denominator q ^ 64 in
     let exact = pos (2 ^ 62) *ℤ pow (numerator q n) 64 in
-    cancel x y k l d (positive-power (denominator q) 64 (positive-denominator q h)) (apart (x * d) (y * d) (k * d) (l * d) exact near-x near-y)
+    cancel x y k l d (positive-power (denominator q) 64 (positive-denominator q h))
+    (apart (x * d) (y * d) (k * d) (l * d) exact near-x near-y)
