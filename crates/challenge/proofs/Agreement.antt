@@ -19,7 +19,8 @@ index-at-most n i c = by (leb c i)
 
 -- a half of the key, at places below 2 ^ 24
 module _ {a b : Lent} (n base : ℕ) where
-  same-output : (i : ℕ) (challenge : List ℕ) → base + (i + n) < 2 ^ 24 → Agree a b (outputEntries n base i challenge) → outputAt (a .key) n base i challenge ≡ outputAt (b .key) n base i challenge
+  same-output : (i : ℕ) (challenge : List ℕ) → base + (i + n) < 2 ^ 24 → Agree a b (outputEntries n base i challenge)
+      → outputAt (a .key) n base i challenge ≡ outputAt (b .key) n base i challenge
   unfolding outputAt termAt outputEntries
   same-output i [] h same = refl
   same-output i (c ∷ challenge) h same =
@@ -28,7 +29,9 @@ module _ {a b : Lent} (n base : ℕ) where
       (same-key-value at (omega (arith, index-at-most n i c)) (agree-head same))
       (same-output i challenge h (agree-tail same))
 
-  same-outputs : (challenge : List ℕ) (i count : ℕ) → base + (i + count + n) ≤ 2 ^ 24 → Agree a b (outputEntriesFrom n base challenge i count) → outputsFrom (a .key) n base challenge i count ≡ outputsFrom (b .key) n base challenge i count
+  same-outputs : (challenge : List ℕ) (i count : ℕ) → base + (i + count + n) ≤ 2 ^ 24
+      → Agree a b (outputEntriesFrom n base challenge i count)
+      → outputsFrom (a .key) n base challenge i count ≡ outputsFrom (b .key) n base challenge i count
   unfolding outputsFrom outputEntriesFrom
   same-outputs challenge i zero h same = refl
   same-outputs challenge i (suc count) h same =
@@ -36,7 +39,8 @@ module _ {a b : Lent} (n base : ℕ) where
       (same-output i challenge (omega arith) (agree-first (outputEntries n base i challenge) _ same))
       (same-outputs challenge (suc i) count (omega arith) (agree-rest (outputEntries n base i challenge) _ same))
 
-pub same-product : {a b : Lent} (n : ℕ) (challenge : List ℕ) → n ≤ 1024 → Agree a b (productEntries n challenge) → product (a .key) n challenge ≡ product (b .key) n challenge
+pub same-product : {a b : Lent} (n : ℕ) (challenge : List ℕ) → n ≤ 1024 → Agree a b (productEntries n challenge)
+    → product (a .key) n challenge ≡ product (b .key) n challenge
 unfolding product productEntries
 same-product n challenge h same =
     ap₂ _++_

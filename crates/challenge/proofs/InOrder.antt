@@ -1,6 +1,6 @@
 -- Where the outputs of the challenge product stand, and where their reads are listed. Assumes nothing.
-use mathlib.Core.Path.{_≡_, refl, sym, ap, _∙_}
-use mathlib.Core.List.{List, [], _∷_, _++_}
+use mathlib.Core.Path.{_≡_, sym, ap, _∙_}
+use mathlib.Core.List.{List, _++_}
 use Prim.Native.Nat.{ℕ, zero, suc, _+_, _*_, _<_}
 use native.Mathlib.Nat.{zero-add, zero-mul, add-zero, le-of-suc-le-suc, not-suc-le-zero, mul-le-mul-right}
 use native.Mathlib.Omega.{arith}
@@ -11,11 +11,13 @@ use lib.IntN.{ℤ, pos}
 use Rattle.read_list.specs.Entries.{entry}
 use Rattle.challenge.specs.Product.{indexOf, outputAt, outputsFrom, product, outputEntries, outputEntriesFrom, productEntries}
 use Rattle.challenge.specs.InOrder.{ProductHalves, IndexListed, ProductListed}
+use Rattle.challenge.proofs.ProductTells.{output-entry-at}
 use Rattle.challenge.proofs.ProductSizes.{length-outputsFrom, length-product, length-outputEntries, length-outputEntriesFrom}
 
 -- ** Outputs
 
-outputs-at : (key : List ℤ) (n base : ℕ) (challenge : List ℕ) (start count i : ℕ) → i < count → getD (outputsFrom key n base challenge start count) i (pos 0) ≡ outputAt key n base (start + i) challenge
+outputs-at : (key : List ℤ) (n base : ℕ) (challenge : List ℕ) (start count i : ℕ) → i < count
+    → getD (outputsFrom key n base challenge start count) i (pos 0) ≡ outputAt key n base (start + i) challenge
 unfolding outputsFrom
 outputs-at key n base challenge start zero i h = absurd (not-suc-le-zero h)
 outputs-at key n base challenge start (suc count) zero h = rw (add-zero start)
@@ -30,30 +32,34 @@ product-halves key n challenge =
     let l = length-outputsFrom key n 0 challenge 0 n in
     record {
       both = length-product key n challenge;
-      first = λ i h. List·getD-append s1 s2 (pos 0) i (omega arith) ∙ outputs-at key n 0 challenge 0 n i h ∙ ap (λ (j : ℕ). outputAt key n 0 j challenge) (zero-add i);
-      second = λ i h. ap (λ (m : ℕ). getD (s1 ++ s2) (m + i) (pos 0)) (sym l) ∙ getD-append-add s1 s2 i (pos 0) ∙ outputs-at key n n challenge 0 n i h ∙ ap (λ (j : ℕ). outputAt key n n j challenge) (zero-add i);
+      first = λ i h. List·getD-append s1 s2 (pos 0) i (omega arith) ∙ half-at 0 i h;
+      second = λ i h. ap (λ (m : ℕ). getD (s1 ++ s2) (m + i) (pos 0)) (sym l) ∙ getD-append-add s1 s2 i (pos 0) ∙ half-at n i h;
     }
+  where
+    half-at : (base i : ℕ) → i < n → getD (outputsFrom key n base challenge 0 n) i (pos 0) ≡ outputAt key n base i challenge
+    half-at base i h = outputs-at key n base challenge 0 n i h ∙ ap (λ (j : ℕ). outputAt key n base j challenge) (zero-add i)
 
 -- ** Entries
 
-output-listed : (n base i : ℕ) (challenge : List ℕ) (k : ℕ) → k < length challenge → getD (outputEntries n base i challenge) k 0 ≡ entry 8 (base + indexOf n i (getD challenge k 0))
-unfolding outputEntries
-output-listed n base i [] k h = absurd (not-suc-le-zero h)
-output-listed n base i (c ∷ challenge) zero h = refl
-output-listed n base i (c ∷ challenge) (suc k) h = output-listed n base i challenge k (le-of-suc-le-suc h)
-
 half-listed : (n base : ℕ) (challenge : List ℕ) (start count i k : ℕ) → i < count → k < length challenge
-    → getD (outputEntriesFrom n base challenge start count) (i * length challenge + k) 0 ≡ entry 8 (base + indexOf n (start + i) (getD challenge k 0))
+    → getD (outputEntriesFrom n base challenge start count) (i * length challenge + k) 0
+    ≡ entry 8 (base + indexOf n (start + i) (getD challenge k 0))
 unfolding outputEntriesFrom
 half-listed n base challenge start zero i k h g = absurd (not-suc-le-zero h)
 half-listed n base challenge start (suc count) zero k h g =
-    rw (zero-mul, zero-add k, add-zero start, List·getD-append (outputEntries n base start challenge) (outputEntriesFrom n base challenge (suc start) count) 0 k (omega (arith, length-outputEntries n base start challenge)))
-    (output-listed n base start challenge k g)
+    let here = outputEntries n base start challenge in
+    let others = outputEntriesFrom n base challenge (suc start) count in
+    let inside : k < length here = omega (arith, length-outputEntries n base start challenge) in
+    rw (zero-mul, zero-add k, add-zero start, List·getD-append here others 0 k inside) (output-entry-at n base start challenge k g)
 half-listed n base challenge start (suc count) (suc i) k h g =
     let here = outputEntries n base start challenge in
-    let place : suc i * length challenge + k ≡ length here + (i * length challenge + k) = omega (arith, length-outputEntries n base start challenge) in
-    ap (λ (m : ℕ). getD (here ++ outputEntriesFrom n base challenge (suc start) count) m 0) place ∙ getD-append-add here (outputEntriesFrom n base challenge (suc start) count) (i * length challenge + k) 0
-    ∙ half-listed n base challenge (suc start) count i k (le-of-suc-le-suc h) g ∙ ap (λ (j : ℕ). entry 8 (base + indexOf n j (getD challenge k 0))) (omega arith)
+    let others = outputEntriesFrom n base challenge (suc start) count in
+    let l = length-outputEntries n base start challenge in
+    let place : suc i * length challenge + k ≡ length here + (i * length challenge + k) = omega (arith, l) in
+    ap (λ (m : ℕ). getD (here ++ others) m 0) place
+    ∙ getD-append-add here others (i * length challenge + k) 0
+    ∙ half-listed n base challenge (suc start) count i k (le-of-suc-le-suc h) g
+    ∙ ap (λ (j : ℕ). entry 8 (base + indexOf n j (getD challenge k 0))) (omega arith)
 
 index-listed : (n base i c : ℕ) {listed : ℕ} → listed ≡ entry 8 (base + indexOf n i c) → IndexListed n base i c listed
 index-listed n base i c e = record { direct = λ h. rw (le-leb c i h) at e; wrapped = λ h. rw (lt-leb c i h) at e }
@@ -66,15 +72,20 @@ product-listed n challenge =
     let l = length-outputEntriesFrom n 0 challenge 0 n in
     record {
       first = λ i k h g.
+          let inside : i * length challenge + k < length s1 = omega (arith, mul-le-mul-right (length challenge) h) in
           index-listed n 0 i (getD challenge k 0)
-          (List·getD-append s1 s2 0 (i * length challenge + k) (omega (arith, mul-le-mul-right (length challenge) h)) ∙ half-from-0 0 i k h g);
+          (List·getD-append s1 s2 0 (i * length challenge + k) inside ∙ half-from-0 0 i k h g);
       second = λ i k h g.
           index-listed n n i (getD challenge k 0)
-          (ap (λ (m : ℕ). getD (s1 ++ s2) m 0) (behind-first i k) ∙ getD-append-add s1 s2 (i * length challenge + k) 0 ∙ half-from-0 n i k h g);
+          (ap (λ (m : ℕ). getD (s1 ++ s2) m 0) (behind-first i k)
+          ∙ getD-append-add s1 s2 (i * length challenge + k) 0 ∙ half-from-0 n i k h g);
     }
   where
-    half-from-0 : (base i k : ℕ) → i < n → k < length challenge → getD (outputEntriesFrom n base challenge 0 n) (i * length challenge + k) 0 ≡ entry 8 (base + indexOf n i (getD challenge k 0))
-    half-from-0 base i k h g = half-listed n base challenge 0 n i k h g ∙ ap (λ (j : ℕ). entry 8 (base + indexOf n j (getD challenge k 0))) (zero-add i)
+    half-from-0 : (base i k : ℕ) → i < n → k < length challenge
+        → getD (outputEntriesFrom n base challenge 0 n) (i * length challenge + k) 0
+        ≡ entry 8 (base + indexOf n i (getD challenge k 0))
+    half-from-0 base i k h g =
+        half-listed n base challenge 0 n i k h g ∙ ap (λ (j : ℕ). entry 8 (base + indexOf n j (getD challenge k 0))) (zero-add i)
 
     behind-first : (i k : ℕ) → (n + i) * length challenge + k ≡ length (outputEntriesFrom n 0 challenge 0 n) + (i * length challenge + k)
     behind-first i k = omega (arith, length-outputEntriesFrom n 0 challenge 0 n)

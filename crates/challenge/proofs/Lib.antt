@@ -1,6 +1,8 @@
 pub mod Positions
 pub mod ProductSizes
-pub mod ProductLaws
+pub mod OutputByPositions
+pub mod HalfByOutputs
+pub mod ProductByHalves
 pub mod ProductTells
 pub mod Agreement
 pub mod Modulo

@@ -36,7 +36,8 @@ module _ (key : List ℤ) (n base i c : ℕ) where
   term-wrapped h = rw (lt-leb c i h)
 
 -- a position that does not wrap is met in X ^ i, and one that wraps in X ^ (i + n)
-term-modulo : (key : List ℤ) (n base i c : ℕ) → i < n → c < n → termAt key n base i c ≡ shiftedAt key n base i c -ℤ shiftedAt key n base (i + n) c
+term-modulo : (key : List ℤ) (n base i c : ℕ) → i < n → c < n
+    → termAt key n base i c ≡ shiftedAt key n base i c -ℤ shiftedAt key n base (i + n) c
 term-modulo key n base i c hi hc = by (leb c i) refl
   where
     by : (direct : Bool) → leb c i ≡ direct → termAt key n base i c ≡ shiftedAt key n base i c -ℤ shiftedAt key n base (i + n) c
@@ -47,14 +48,17 @@ term-modulo key n base i c hi hc = by (leb c i) refl
     by false e =
         let high = leb-false c i e in
         rw (shifted-before key n base i c high)
-        (term-wrapped key n base i c high ∙ ap negℤ (sym (shifted-inside key n base (i + n) c (omega arith) (omega arith))) ∙ sym (+ℤ-idl (negℤ (shiftedAt key n base (i + n) c))))
+        (term-wrapped key n base i c high
+        ∙ ap negℤ (sym (shifted-inside key n base (i + n) c (omega arith) (omega arith)))
+        ∙ sym (+ℤ-idl (negℤ (shiftedAt key n base (i + n) c))))
 
 -- ** All positions
 
 differences-add : (a b c d : ℤ) → (a -ℤ b) +ℤ (c -ℤ d) ≡ (a +ℤ c) -ℤ (b +ℤ d)
 differences-add a b c d =
+    let swap = ap (λ (x : ℤ). x +ℤ negℤ d) (+ℤ-comm (negℤ b) c) in
     +ℤ-assoc a (negℤ b) (c +ℤ negℤ d)
-    ∙ ap (λ (x : ℤ). a +ℤ x) (sym (+ℤ-assoc (negℤ b) c (negℤ d)) ∙ ap (λ (x : ℤ). x +ℤ negℤ d) (+ℤ-comm (negℤ b) c) ∙ +ℤ-assoc c (negℤ b) (negℤ d))
+    ∙ ap (λ (x : ℤ). a +ℤ x) (sym (+ℤ-assoc (negℤ b) c (negℤ d)) ∙ swap ∙ +ℤ-assoc c (negℤ b) (negℤ d))
     ∙ sym (+ℤ-assoc a c (negℤ b +ℤ negℤ d))
     ∙ ap (λ (x : ℤ). (a +ℤ c) +ℤ x) (sym (negℤ-+ℤ b d))
 
@@ -64,10 +68,14 @@ module _ (key : List ℤ) (n base : ℕ) where
   unfolding outputAt coefficientAt
   output-modulo i h [] below = refl
   output-modulo i h (c ∷ challenge) below =
-      ap₂ (λ (a b : ℤ). a +ℤ b) (term-modulo key n base i c h (below 0 (omega arith))) (output-modulo i h challenge (λ k l. below (suc k) (omega arith)))
-      ∙ differences-add (shiftedAt key n base i c) (shiftedAt key n base (i + n) c) (coefficientAt key n base i challenge) (coefficientAt key n base (i + n) challenge)
+      let one = term-modulo key n base i c h (below 0 (omega arith)) in
+      let others = output-modulo i h challenge (λ k l. below (suc k) (omega arith)) in
+      ap₂ (λ (a b : ℤ). a +ℤ b) one others
+      ∙ differences-add (shiftedAt key n base i c) (shiftedAt key n base (i + n) c)
+      (coefficientAt key n base i challenge) (coefficientAt key n base (i + n) challenge)
 
-  no-coefficient : (k : ℕ) → 2 * n ≤ k → (challenge : List ℕ) → ((j : ℕ) → j < length challenge → getD challenge j 0 < n) → coefficientAt key n base k challenge ≡ pos 0
+  no-coefficient : (k : ℕ) → 2 * n ≤ k → (challenge : List ℕ) → ((j : ℕ) → j < length challenge → getD challenge j 0 < n)
+      → coefficientAt key n base k challenge ≡ pos 0
   unfolding coefficientAt
   no-coefficient k far [] below = refl
   no-coefficient k far (c ∷ challenge) below =
@@ -75,11 +83,13 @@ module _ (key : List ℤ) (n base : ℕ) where
       (+ℤ-idl (coefficientAt key n base k challenge) ∙ no-coefficient k far challenge (λ j l. below (suc j) (omega arith)))
 
 pub product-modulo : ProductModulo
-product-modulo key n base challenge below = (λ i h. output-modulo key n base i h challenge below, λ k far. no-coefficient key n base k far challenge below)
+product-modulo key n base challenge below =
+    (λ i h. output-modulo key n base i h challenge below, λ k far. no-coefficient key n base k far challenge below)
 
 -- ** One position more
 
-output-more : (key : List ℤ) (n base i : ℕ) (challenge : List ℕ) (c : ℕ) → outputAt key n base i (challenge ++ (c ∷ [])) ≡ outputAt key n base i challenge +ℤ termAt key n base i c
+output-more : (key : List ℤ) (n base i : ℕ) (challenge : List ℕ) (c : ℕ)
+    → outputAt key n base i (challenge ++ (c ∷ [])) ≡ outputAt key n base i challenge +ℤ termAt key n base i c
 unfolding outputAt
 output-more key n base i [] c = +ℤ-idr (termAt key n base i c) ∙ sym (+ℤ-idl (termAt key n base i c))
 output-more key n base i (d ∷ challenge) c =
@@ -88,8 +98,11 @@ output-more key n base i (d ∷ challenge) c =
 
 pub output-by-one-more : OutputByOneMore
 unfolding outputAt
-output-by-one-more key n base i challenge c = record {
-  none = refl;
-  direct = λ h. output-more key n base i challenge c ∙ ap (λ (x : ℤ). outputAt key n base i challenge +ℤ x) (term-direct key n base i c h);
-  wrapped = λ h. output-more key n base i challenge c ∙ ap (λ (x : ℤ). outputAt key n base i challenge +ℤ x) (term-wrapped key n base i c h);
-}
+output-by-one-more key n base i challenge c =
+    let before = outputAt key n base i challenge in
+    let more = output-more key n base i challenge c in
+    record {
+      none = refl;
+      direct = λ h. more ∙ ap (λ (x : ℤ). before +ℤ x) (term-direct key n base i c h);
+      wrapped = λ h. more ∙ ap (λ (x : ℤ). before +ℤ x) (term-wrapped key n base i c h);
+    }

@@ -23,6 +23,8 @@ challenge-of n challenge h =
       below = both-true (positionsBelow n challenge) (ascends challenge) (fits .1) .0;
     }
 
-pub position-below : (n : ℕ) (challenge : List ℕ) (k : ℕ) → positionsBelow n challenge ≡ true → k < length challenge → getD challenge k 0 < n
+pub position-below : (n : ℕ) (challenge : List ℕ) (k : ℕ) → positionsBelow n challenge ≡ true → k < length challenge
+    → getD challenge k 0 < n
 unfolding positionsBelow
-position-below n challenge k below h = ltb-true (getD challenge k 0) n (all-at (λ (j : ℕ). ltb (getD challenge j 0) n) k (length challenge) h below)
+position-below n challenge k below h =
+    ltb-true (getD challenge k 0) n (all-at (λ (j : ℕ). ltb (getD challenge j 0) n) k (length challenge) h below)

@@ -50,20 +50,23 @@ index-injective n (suc c) zero hc hd e = absurd (omega (arith, index-of-later n 
 index-injective n (suc c) (suc d) hc hd e = omega (arith, index-of-later n c, index-of-later n d)
 
 -- the entry of one position
-output-entry-at : (n base i : ℕ) (challenge : List ℕ) (k : ℕ) → k < length challenge → getD (outputEntries n base i challenge) k 0 ≡ entry 8 (base + indexOf n i (getD challenge k 0))
+pub output-entry-at : (n base i : ℕ) (challenge : List ℕ) (k : ℕ) → k < length challenge
+    → getD (outputEntries n base i challenge) k 0 ≡ entry 8 (base + indexOf n i (getD challenge k 0))
 unfolding outputEntries
 output-entry-at n base i [] k h = absurd (not-suc-le-zero h)
 output-entry-at n base i (c ∷ challenge) zero h = refl
 output-entry-at n base i (c ∷ challenge) (suc k) h = output-entry-at n base i challenge k (le-of-suc-le-suc h)
 
 -- the entries of output 0 tell the challenge
-output-0-tells : (n : ℕ) (challenge challenge′ : List ℕ) → positionsBelow n challenge ≡ true → positionsBelow n challenge′ ≡ true → length challenge ≡ length challenge′
+output-0-tells : (n : ℕ) (challenge challenge′ : List ℕ) → positionsBelow n challenge ≡ true → positionsBelow n challenge′ ≡ true
+    → length challenge ≡ length challenge′
     → outputEntries n 0 0 challenge ≡ outputEntries n 0 0 challenge′ → challenge ≡ challenge′
 output-0-tells n challenge challenge′ below below′ same e =
     ext-getD 0 challenge challenge′ same (λ k h.
     let h′ : k < length challenge′ = omega arith in
     let entries = sym (output-entry-at n 0 0 challenge k h) ∙ ap (λ (l : List ℕ). getD l k 0) e ∙ output-entry-at n 0 0 challenge′ k h′ in
-    index-injective n (getD challenge k 0) (getD challenge′ k 0) (position-below n challenge k below h) (position-below n challenge′ k below′ h′) (omega arith))
+    index-injective n (getD challenge k 0) (getD challenge′ k 0)
+    (position-below n challenge k below h) (position-below n challenge′ k below′ h′) (omega arith))
 
 -- at one degree, the entries of a product tell the challenge
 pub product-tells : (n : ℕ) (challenge challenge′ : List ℕ) → 1 ≤ n → positionsBelow n challenge ≡ true → positionsBelow n challenge′ ≡ true
@@ -72,8 +75,8 @@ unfolding productEntries outputEntriesFrom
 product-tells zero challenge challenge′ h below below′ e = absurd (omega arith)
 product-tells (suc m) challenge challenge′ h below below′ e =
     let n = suc m in
-    let lengths : 2 * n * length challenge ≡ 2 * n * length challenge′ = sym (length-productEntries n challenge) ∙ ap length e ∙ length-productEntries n challenge′ in
-    let same : length challenge ≡ length challenge′ = eq-of-mul-eq-mul-left (2 * n) (omega arith) (length challenge) (length challenge′) lengths in
+    let lengths = sym (length-productEntries n challenge) ∙ ap length e ∙ length-productEntries n challenge′ in
+    let same = eq-of-mul-eq-mul-left (2 * n) (omega arith) (length challenge) (length challenge′) lengths in
     let rest = outputEntriesFrom n 0 challenge 1 m in
     let rest′ = outputEntriesFrom n 0 challenge′ 1 m in
     let second = outputEntriesFrom n n challenge 0 n in

@@ -1,5 +1,5 @@
--- The challenge product is the product of two polynomials modulo X ^ n + 1: of a half of the key, s[0] + s[1] * X + .. + s[n - 1] * X ^ (n - 1),
--- and of the challenge, the sum of X ^ c over its positions c. Assumes nothing.
+-- The challenge product is the product of two polynomials modulo X ^ n + 1: of a half of the key,
+-- s[0] + s[1] * X + .. + s[n - 1] * X ^ (n - 1), and of the challenge, the sum of X ^ c over its positions c. Assumes nothing.
 use mathlib.Core.Path.{_≡_}
 use mathlib.Core.Bool.{cond, _&&_}
 use mathlib.Core.List.{List, [], _∷_, _++_}
@@ -22,7 +22,8 @@ coefficientAt key n base k (c ∷ challenge) = shiftedAt key n base k c +ℤ coe
 abbrev pub ProductModulo : Type 0
 ProductModulo =
     (key : List ℤ) (n base : ℕ) (challenge : List ℕ) → ((k : ℕ) → k < length challenge → getD challenge k 0 < n) →
-    ((i : ℕ) → i < n → outputAt key n base i challenge ≡ coefficientAt key n base i challenge -ℤ coefficientAt key n base (i + n) challenge)
+    ((i : ℕ) → i < n →
+    outputAt key n base i challenge ≡ coefficientAt key n base i challenge -ℤ coefficientAt key n base (i + n) challenge)
     × ((k : ℕ) → 2 * n ≤ k → coefficientAt key n base k challenge ≡ pos 0)
 
 -- of no position an output is 0, and a position c more at the end adds s[i - c] where i is at least c, else -s[i - c + n]

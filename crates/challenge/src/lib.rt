@@ -7,7 +7,8 @@ ghost use lib.Seq.{sets};
 ghost use Rattle.signed.specs.Vectors.{allWithin, squareSum};
 ghost use Rattle.read_list.specs.Entries.{entry};
 ghost use Rattle.challenge.specs.Challenge.{positionsBelow, ascends, arePositions, isChallenge};
-ghost use Rattle.challenge.specs.Product.{keyBound, indexOf, termAt, outputAt, outputsFrom, product, Factors, outputEntries, outputEntriesFrom, productEntries};
+ghost use Rattle.challenge.specs.Product.{keyBound, indexOf, termAt, outputAt, outputsFrom, product, Factors};
+ghost use Rattle.challenge.specs.Product.{outputEntries, outputEntriesFrom, productEntries};
 
 // The largest size of a key value.
 pub const KEY_BOUND: u32 = 7;
@@ -73,8 +74,15 @@ fn term_at(
     list: &mut [u32],
     at: usize,
 ) -> i32
-    requires { ⌜ (length (now key) ≡ 2 * n) × (allWithin keyBound (now key) ≡ true) × (n ≤ 1024) × (base ≤ n) × (i < n) × (c < n) × (at < length (now list)) ⌝ }
-    ensures { λ r. ⌜ (r ≡ termAt (now (key .entry)) n base i c) × (now (list .exit) ≡ set (now (list .entry)) at (entry 8 (base + indexOf n i c))) ⌝ }
+    requires { ⌜ (length (now key) ≡ 2 * n)
+        × (allWithin keyBound (now key) ≡ true)
+        × (n ≤ 1024)
+        × (base ≤ n)
+        × (i < n)
+        × (c < n)
+        × (at < length (now list)) ⌝ }
+    ensures { λ r. ⌜ (r ≡ termAt (now (key .entry)) n base i c)
+        × (now (list .exit) ≡ set (now (list .entry)) at (entry 8 (base + indexOf n i c))) ⌝ }
 {
     if c <= i {
         return read_list::listed_value(key, read_list::KEY, base + (i - c), list, at);
@@ -95,7 +103,8 @@ fn output_at(
 ) -> i32
     requires { ⌜ Factors (now key) n (now challenge) ⌝ }
     requires { ⌜ (base ≤ n) × (i < n) × (at + length (now challenge) ≤ length (now list)) ⌝ }
-    ensures { λ r. ⌜ (r ≡ outputAt (now (key .entry)) n base i (now (challenge .entry))) × (now (list .exit) ≡ sets (now (list .entry)) at (outputEntries n base i (now (challenge .entry)))) ⌝ }
+    ensures { λ r. ⌜ (r ≡ outputAt (now (key .entry)) n base i (now (challenge .entry)))
+        × (now (list .exit) ≡ sets (now (list .entry)) at (outputEntries n base i (now (challenge .entry)))) ⌝ }
 {
     let mut sum: i32 = 0;
     let mut k: usize = 0;
@@ -119,10 +128,14 @@ fn half(
     at: usize,
 ) -> u64
     requires { ⌜ Factors (now key) n (now challenge) ⌝ }
-    requires { ⌜ (base ≤ n) × (length (now z) ≡ 2 * n) × (at + n * length (now challenge) ≤ length (now list)) ⌝ }
+    requires { ⌜ (base ≤ n)
+        × (length (now z) ≡ 2 * n)
+        × (at + n * length (now challenge) ≤ length (now list)) ⌝ }
     ensures { λ r. ⌜ r ≡ squareSum (outputsFrom (now (key .entry)) n base (now (challenge .entry)) 0 n) ⌝ }
-    ensures { λ _. ⌜ now (z .exit) ≡ sets (now (z .entry)) base (outputsFrom (now (key .entry)) n base (now (challenge .entry)) 0 n) ⌝ }
-    ensures { λ _. ⌜ now (list .exit) ≡ sets (now (list .entry)) at (outputEntriesFrom n base (now (challenge .entry)) 0 n) ⌝ }
+    ensures { λ _. ⌜ now (z .exit)
+        ≡ sets (now (z .entry)) base (outputsFrom (now (key .entry)) n base (now (challenge .entry)) 0 n) ⌝ }
+    ensures { λ _. ⌜ now (list .exit)
+        ≡ sets (now (list .entry)) at (outputEntriesFrom n base (now (challenge .entry)) 0 n) ⌝ }
 {
     let mut squares: u64 = 0;
     let mut i: usize = 0;

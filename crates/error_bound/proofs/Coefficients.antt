@@ -14,7 +14,8 @@ unfolding productAbove
 product-above j zero = rw add-zero (omega arith)
 product-above j (suc count) =
     let e : j + suc count ≡ suc (j + count) = omega arith in
-    rw (e, factorial-suc (j + count)) (mul-assoc (suc (j + count)) (productAbove j count) (factorial j) ∙ ap (λ (x : ℕ). suc (j + count) * x) (product-above j count))
+    rw (e, factorial-suc (j + count))
+    (mul-assoc (suc (j + count)) (productAbove j count) (factorial j) ∙ ap (λ (x : ℕ). suc (j + count) * x) (product-above j count))
 
 -- the product of j + 1 to 20 is 20! / j!
 factorial-ratio : (j : ℕ) → j ≤ 20 → productAbove j (20 - j) * factorial j ≡ factorial 20
@@ -34,7 +35,8 @@ scale-suc q j h =
 
 pub coefficient-factorial : (q j : ℕ) → j ≤ 20 → coefficient q j * factorial j ≡ scale q j
 unfolding coefficient scale
-coefficient-factorial q j h = mul-assoc (q ^ (20 - j)) (productAbove j (20 - j)) (factorial j) ∙ ap (λ (x : ℕ). q ^ (20 - j) * x) (factorial-ratio j h)
+coefficient-factorial q j h =
+    mul-assoc (q ^ (20 - j)) (productAbove j (20 - j)) (factorial j) ∙ ap (λ (x : ℕ). q ^ (20 - j) * x) (factorial-ratio j h)
 
 pub common-denominator : CommonDenominator
 unfolding denominator scale
@@ -45,8 +47,10 @@ common-denominator q j h =
 -- coefficients grow at least by q downwards
 pub coefficient-le : (q j : ℕ) → j < 20 → q * coefficient q (suc j) ≤ coefficient q j
 coefficient-le q j h =
+    let next = ap (λ (x : ℕ). q * x) (coefficient-factorial q (suc j) h) in
+    let here = coefficient-factorial q j (omega arith) in
     le-of-mul-le-mul-right {k = factorial (suc j)}
-    (omega (arith, ap (λ (x : ℕ). q * x) (coefficient-factorial q (suc j) h), coefficient-factorial q j (omega arith), scale-suc q j h, mul-le-mul-left (coefficient q j) (factorial-le j)))
+    (omega (arith, next, here, scale-suc q j h, mul-le-mul-left (coefficient q j) (factorial-le j)))
     (factorial-pos (suc j))
 
 pub scale-top : (q : ℕ) → scale q 20 ≡ 2432902008176640000

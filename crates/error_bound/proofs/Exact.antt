@@ -55,7 +55,8 @@ odd-power n i = rw (even-power n i, pos-neg, add-one, pow-suc n (2 * i))
 odd-term : (q n i : ℕ) → term q n (suc (2 * i)) ≡ negℤ (pos (size q n (2 * i + 1)))
 unfolding term
 odd-term q n i =
-    ap (λ (x : ℤ). x *ℤ pos (coefficient q (suc (2 * i)))) (odd-power n i) ∙ rw add-one (neg-pos (n ^ suc (2 * i)) (coefficient q (suc (2 * i))))
+    ap (λ (x : ℤ). x *ℤ pos (coefficient q (suc (2 * i)))) (odd-power n i)
+    ∙ rw add-one (neg-pos (n ^ suc (2 * i)) (coefficient q (suc (2 * i))))
 
 even-term : (q n i : ℕ) → term q n (2 * i) ≡ pos (size q n (2 * i))
 unfolding term
@@ -75,7 +76,8 @@ unfolding sumℤ sum
 pairs q n zero = refl
 pairs q n (suc i) =
     let e : 2 * suc i ≡ suc (suc (2 * i)) = omega arith in
-    rw (e, pairs q n i, even-term q n i, odd-term q n i) (regroup (sum (λ (i : ℕ). size q n (2 * i)) i) (sum (λ (i : ℕ). size q n (2 * i + 1)) i) (size q n (2 * i)) (size q n (2 * i + 1)))
+    rw (e, pairs q n i, even-term q n i, odd-term q n i)
+    (regroup (sum (λ (i : ℕ). size q n (2 * i)) i) (sum (λ (i : ℕ). size q n (2 * i + 1)) i) (size q n (2 * i)) (size q n (2 * i + 1)))
 
 difference : (a b : ℕ) → b ≤ a → pos a -ℤ pos b ≡ pos (a - b)
 difference a b h = ap (λ (x : ℕ). pos x -ℤ pos b) (sym (sub-add-cancel h)) ∙ +ℤ-negℤ-cancel (pos (a - b)) (pos b)
@@ -104,7 +106,10 @@ numerator-power : (q n : ℕ) → taken q n ≤ added q n → pow (numerator q n
 numerator-power q n h = ap (λ (x : ℤ). pow x 64) (numerator-is q n h) ∙ power-is (added q n - taken q n) 64
 
 -- from the two bounds on naturals to the distance of integers
-pub within : (k x q n : ℕ) → taken q n ≤ added q n → x * denominator q ^ 64 ≤ 2 ^ 62 * (added q n - taken q n) ^ 64 + k * denominator q ^ 64 → 2 ^ 62 * (added q n - taken q n) ^ 64 ≤ x * denominator q ^ 64 + k * denominator q ^ 64 → Within k x q n
+pub within : (k x q n : ℕ) → taken q n ≤ added q n
+    → x * denominator q ^ 64 ≤ 2 ^ 62 * (added q n - taken q n) ^ 64 + k * denominator q ^ 64
+    → 2 ^ 62 * (added q n - taken q n) ^ 64 ≤ x * denominator q ^ 64 + k * denominator q ^ 64
+    → Within k x q n
 unfolding Within
 within k x q n h u l =
     let X = x * denominator q ^ 64 in
@@ -143,4 +148,5 @@ unfolding Within
 within-is-near k l x y q n h near-x near-y =
     let d = denominator q ^ 64 in
     let exact = pos (2 ^ 62) *ℤ pow (numerator q n) 64 in
-    cancel x y k l d (positive-power (denominator q) 64 (positive-denominator q h)) (apart (x * d) (y * d) (k * d) (l * d) exact near-x near-y)
+    cancel x y k l d (positive-power (denominator q) 64 (positive-denominator q h))
+    (apart (x * d) (y * d) (k * d) (l * d) exact near-x near-y)

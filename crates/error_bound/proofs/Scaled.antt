@@ -7,7 +7,8 @@ use Rattle.exponential.specs.Exponential.{reciprocal, scaled}
 use Rattle.error_bound.specs.ErrorBound.{InRange}
 
 -- with W and H for 2 ^ 62 and 2 ^ 22
-module _ (W H q n r v : ℕ) (posH : 0 < H) (r-le : r * q ≤ W * H) (r-ge : W * H ≤ r * q + q) (v-le : v * H ≤ n * r) (v-ge : n * r ≤ v * H + H) (n-le : 3 * n ≤ 4 * H) where
+module _ (W H q n r v : ℕ) (posH : 0 < H) (r-le : r * q ≤ W * H) (r-ge : W * H ≤ r * q + q) (v-le : v * H ≤ n * r)
+    (v-ge : n * r ≤ v * H + H) (n-le : 3 * n ≤ 4 * H) where
   v-low : v * q ≤ n * W
   v-low = le-of-mul-le-mul-right {k = H} (omega (arith, mul-le-mul-right q v-le, mul-le-mul-left n r-le)) posH
 

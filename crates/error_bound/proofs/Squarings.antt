@@ -13,7 +13,8 @@ near-square : (E a S D : ℕ) → Near E a S D → Near (2 * E + 1) (squared a) 
 unfolding squared
 near-square E a S D c =
     let low : 2 ^ 62 * (a * a / 2 ^ 62) ≤ a * a + 2 ^ 62 = omega (arith, mul-div-le (a * a) (2 ^ 62)) in
-    let both = square (2 ^ 62) D S a (a * a / 2 ^ 62) E (pow-pos 62) (c .whole) (c .proper) low (quotient-high (a * a)) (c .above) (c .below) in
+    let both = square (2 ^ 62) D S a (a * a / 2 ^ 62) E (pow-pos 62) (c .whole) (c .proper)
+    low (quotient-high (a * a)) (c .above) (c .below) in
     record {
       whole = le-trans (product-small a a (c .whole)) (c .whole);
       proper = mul-le-mul (c .proper) (c .proper);

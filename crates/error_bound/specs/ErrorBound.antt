@@ -9,7 +9,9 @@ ErrorBound = (n : ℕ) → n ≤ limit → Within 1024 (exp n) divisor n
 
 -- the same at every deviation from 107 to 271, for every N from 0 to 1,370,625, the largest that an attempt has
 abbrev pub ErrorBoundAtDeviations : Type 0
-ErrorBoundAtDeviations = (deviation n : ℕ) → 107 ≤ deviation → deviation ≤ 271 → n ≤ attemptLimit → Within 1024 (expWith polynomial (divisorAt deviation) n) (divisorAt deviation) n
+ErrorBoundAtDeviations =
+    (deviation n : ℕ) → 107 ≤ deviation → deviation ≤ 271 → n ≤ attemptLimit →
+    Within 1024 (expWith polynomial (divisorAt deviation) n) (divisorAt deviation) n
 
 -- N / q is at most 15 / 16, and N at most 4 / 3 * 2 ^ 22
 pub record InRange (q n : ℕ) : Type 0 where

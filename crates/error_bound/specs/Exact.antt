@@ -34,7 +34,8 @@ denominator q = q ^ 20 * factorial 20
 abbrev pub CommonDenominator : Type 0
 CommonDenominator = (q j : ℕ) → j ≤ 20 → coefficient q j * (q ^ j * factorial j) ≡ denominator q
 
--- x units of 2 ^ -62 differ from (numerator / denominator) ^ 64 by at most k units: | x - 2 ^ 62 * (numerator / denominator) ^ 64 | ≤ k, multiplied by denominator ^ 64
+-- x units of 2 ^ -62 differ from (numerator / denominator) ^ 64 by at most k units:
+-- | x - 2 ^ 62 * (numerator / denominator) ^ 64 | ≤ k, multiplied by denominator ^ 64
 unfoldable pub Within : (k x q n : ℕ) → Type 0
 Within k x q n = natAbs (pos (x * denominator q ^ 64) -ℤ pos (2 ^ 62) *ℤ pow (numerator q n) 64) ≤ k * denominator q ^ 64
 

@@ -6,7 +6,9 @@ use native.Mathlib.Omega.{arith}
 use lib.Dec.{ltb}
 use lib.ListN.{getD}
 use borrow.Author.Tests.{le-leb, lt-leb, lt-ltb, le-ltb}
-use Rattle.exponential.specs.Exponential.{polynomialEntry, polynomial, reciprocal, scaled, evaluate, squared, squarings, expScaled, expWith, divisor, exp, ExponentialInTurn, limit, expOrRefusal, ExponentialAlone}
+use Rattle.exponential.specs.Exponential.{polynomialEntry, polynomial, reciprocal, scaled, evaluate, squared, squarings}
+use Rattle.exponential.specs.Exponential.{expScaled, expWith, divisor, exp, limit, expOrRefusal}
+use Rattle.exponential.specs.Exponential.{ExponentialInTurn, ExponentialAlone}
 use Rattle.exponential.proofs.Table.{table-at}
 
 -- ** In turn

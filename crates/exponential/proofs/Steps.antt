@@ -5,7 +5,8 @@ use Prim.Native.Nat.{ℕ, zero, suc, _-_, _*_, _/_, _^_, _≤_, _<_}
 use native.Mathlib.Nat.{not-suc-le-zero, le-trans, le-mul-of-pos-right, mul-le-mul-right, sub-le}
 use native.Mathlib.Omega.{arith}
 use lib.ListN.{length, getD}
-use Rattle.exponential.specs.Exponential.{factorial, polynomialEntry, entriesFrom, polynomial, scaled, evaluate, squared, squarings, expScaled}
+use Rattle.exponential.specs.Exponential.{factorial, polynomialEntry, entriesFrom, polynomial, scaled, evaluate, squared}
+use Rattle.exponential.specs.Exponential.{squarings, expScaled}
 use Rattle.exponential.proofs.Table.{factorial-pos, entry-low, small-entry, table-at}
 
 before-suc : (k : ℕ) → suc k - 1 ≡ k
@@ -16,7 +17,8 @@ unfolding squarings
 squarings-step zero a h = absurd (not-suc-le-zero h)
 squarings-step (suc k) a h = rw before-suc
 
-evaluate-step : (table : List ℕ) (v j a : ℕ) → 0 < j → evaluate table v (j - 1) (getD table (j - 1) 0 - a * v / 2 ^ 62) ≡ evaluate table v j a
+evaluate-step : (table : List ℕ) (v j a : ℕ) → 0 < j
+    → evaluate table v (j - 1) (getD table (j - 1) 0 - a * v / 2 ^ 62) ≡ evaluate table v j a
 unfolding evaluate
 evaluate-step table v zero a h = absurd (not-suc-le-zero h)
 evaluate-step table v (suc j) a h = rw before-suc
@@ -69,8 +71,10 @@ pub record Evaluating (table : List ℕ) (v a j : ℕ) : Type 0 where
 pub evaluating-starts : (table : List ℕ) (v : ℕ) → Evaluating table v 0 21
 evaluating-starts table v = record { count = omega arith; small = omega arith; value = evaluate-start table v }
 
-pub evaluating-ends : {table : List ℕ} {v a j : ℕ} → j ≤ 0 → Evaluating table v a j → (a ≡ evaluate table v 20 (getD table 20 0)) × (a ≤ 2 ^ 62)
-evaluating-ends {table} {v} {a} {j} h e = (evaluate-end table v j a h ∙ e .value, le-trans (le-mul-of-pos-right a (factorial-pos j)) (e .small))
+pub evaluating-ends : {table : List ℕ} {v a j : ℕ} → j ≤ 0 → Evaluating table v a j
+    → (a ≡ evaluate table v 20 (getD table 20 0)) × (a ≤ 2 ^ 62)
+evaluating-ends {table} {v} {a} {j} h e =
+    (evaluate-end table v j a h ∙ e .value, le-trans (le-mul-of-pos-right a (factorial-pos j)) (e .small))
 
 module _ {table : List ℕ} (is : table ≡ polynomial) {v a j : ℕ} (more : 0 < j) (e : Evaluating table v a j) where
   -- a step is the difference of two numbers
@@ -87,6 +91,8 @@ module _ {table : List ℕ} (is : table ≡ polynomial) {v a j : ℕ} (more : 0 
 -- ** The whole exponential
 
 -- v, the evaluation and the six squarings are those of the definition
-pub exp-in-steps : (table : List ℕ) (r n : ℕ) {v a e : ℕ} → v ≡ n * r / 2 ^ 22 → a ≡ evaluate table v 20 (getD table 20 0) → e ≡ squarings 6 a → e ≡ expScaled table r n
+pub exp-in-steps : (table : List ℕ) (r n : ℕ) {v a e : ℕ}
+    → v ≡ n * r / 2 ^ 22 → a ≡ evaluate table v 20 (getD table 20 0) → e ≡ squarings 6 a
+    → e ≡ expScaled table r n
 unfolding expScaled scaled
 exp-in-steps table r n ev ea ee = ee ∙ rw (ea, ev)

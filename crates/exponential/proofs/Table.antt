@@ -3,13 +3,15 @@ use mathlib.Core.Path.{_≡_, refl, sym, ap, _∙_}
 use mathlib.Core.Bool.{Bool, true, false, _&&_}
 use mathlib.Core.List.{List, [], _∷_}
 use Prim.Native.Nat.{ℕ, zero, suc, _+_, _*_, _/_, _^_, _≤_, _<_}
-use native.Mathlib.Nat.{zero-lt-suc, add-zero, zero-add, add-suc, suc-add, le-of-suc-le-suc, not-suc-le-zero, mul-pos, le-trans, mul-le-mul-left, mul-le-mul-right, div-mul-le-self, le-div-iff-mul-le, le-of-mul-le-mul-right}
+use native.Mathlib.Nat.{zero-lt-suc, add-zero, zero-add, add-suc, suc-add, le-of-suc-le-suc, not-suc-le-zero, mul-pos, le-trans}
+use native.Mathlib.Nat.{mul-le-mul-left, mul-le-mul-right, div-mul-le-self, le-div-iff-mul-le, le-of-mul-le-mul-right}
 use native.Mathlib.Omega.{arith}
 use borrow.Author.Tests.{eq-eqb, eqb-true}
 use lib.Pow.{pow-pos}
 use lib.Dec.{eqb}
 use lib.ListN.{getD}
-use Rattle.exponential.specs.Exponential.{factorial, polynomialEntry, entriesFrom, polynomial, sameWords, isPolynomial, reciprocal, expScaled, expWith, divisorAt, divisor}
+use Rattle.exponential.specs.Exponential.{factorial, polynomialEntry, entriesFrom, polynomial, sameWords, isPolynomial}
+use Rattle.exponential.specs.Exponential.{reciprocal, expScaled, expWith, divisorAt, divisor}
 
 -- ** Factorials
 
@@ -55,7 +57,8 @@ unfolding sameWords
 same-words-refl [] = refl
 same-words-refl (a ∷ l) = rw (eq-eqb a a refl, same-words-refl l)
 
-same-cons : (a b : ℕ) (l m : List ℕ) → (sameWords l m ≡ true → l ≡ m) → (t : Bool) → eqb a b ≡ t → (t && sameWords l m) ≡ true → a ∷ l ≡ b ∷ m
+same-cons : (a b : ℕ) (l m : List ℕ) → (sameWords l m ≡ true → l ≡ m) → (t : Bool) → eqb a b ≡ t → (t && sameWords l m) ≡ true
+    → a ∷ l ≡ b ∷ m
 same-cons a b l m rest true e s = rw (eqb-true a b e, rest s)
 same-cons a b l m rest false e s = cc
 

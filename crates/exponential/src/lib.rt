@@ -4,7 +4,8 @@ ghost use Prim.Native.Nat.{_+_, _-_, _*_, _/_, _^_, _≤_, _<_};
 ghost use lib.ListN.{length, getD};
 ghost use lib.Seq.{sets};
 ghost use Rattle.read_list.specs.Entries.{placesDown};
-ghost use Rattle.exponential.specs.Exponential.{polynomialEntry, polynomial, isPolynomial, evaluate, squared, squarings, expScaled, expOrRefusal};
+ghost use Rattle.exponential.specs.Exponential.{polynomialEntry, polynomial, isPolynomial, evaluate, squared, squarings};
+ghost use Rattle.exponential.specs.Exponential.{expScaled, expOrRefusal};
 
 // R at deviation 215.
 pub const RECIPROCAL_215: u64 = 3269134179596076729;
@@ -78,7 +79,9 @@ fn next_value(entry: u64, a: u64, v: u64) -> u64
 // The polynomial at v, from entry 20 down to entry 0. Each entry is listed where it is read.
 fn evaluate_listed(table: &[u64], v: u64, list: &mut [u32], at: usize) -> u64
     requires { ⌜ (now table ≡ polynomial) × (v < 2 ^ 62) × (at + 21 ≤ length (now list)) ⌝ }
-    ensures { λ r. ⌜ (r ≡ evaluate (now (table .entry)) v 20 (getD (now (table .entry)) 20 0)) × (r ≤ 2 ^ 62) × (now (list .exit) ≡ sets (now (list .entry)) at (placesDown 4 21)) ⌝ }
+    ensures { λ r. ⌜ (r ≡ evaluate (now (table .entry)) v 20 (getD (now (table .entry)) 20 0))
+        × (r ≤ 2 ^ 62)
+        × (now (list .exit) ≡ sets (now (list .entry)) at (placesDown 4 21)) ⌝ }
 {
     let mut a: u64 = 0;
     let mut j = POLYNOMIAL_WORDS;
@@ -132,7 +135,9 @@ fn power64(first: u64) -> u64
 // a list on, and the rest of the list is unchanged.
 pub fn exp_listed(table: &[u64], reciprocal: u64, n: u64, list: &mut [u32], at: usize) -> u64
     requires { ⌜ (now table ≡ polynomial) × (n * reciprocal < 2 ^ 84) × (at + 21 ≤ length (now list)) ⌝ }
-    ensures { λ r. ⌜ (r ≡ expScaled (now (table .entry)) reciprocal n) × (r ≤ 2 ^ 62) × (now (list .exit) ≡ sets (now (list .entry)) at (placesDown 4 21)) ⌝ }
+    ensures { λ r. ⌜ (r ≡ expScaled (now (table .entry)) reciprocal n)
+        × (r ≤ 2 ^ 62)
+        × (now (list .exit) ≡ sets (now (list .entry)) at (placesDown 4 21)) ⌝ }
 {
     let v = arithmetic::mul_shift22(n, reciprocal);
     let a = evaluate_listed(table, v, list, at);

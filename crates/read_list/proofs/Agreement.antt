@@ -38,7 +38,8 @@ module _ {a b : Lent} where
   agree-tail same f m = same f (List·Memᴰ·tail m)
 
   -- at each place of a run
-  pub agree-placesUp : (kind place count : ℕ) → Agree a b (placesUp kind place count) → (p : ℕ) → place ≤ p → p < place + count → SameAt a b (entry kind p)
+  pub agree-placesUp : (kind place count : ℕ) → Agree a b (placesUp kind place count) → (p : ℕ) → place ≤ p → p < place + count
+      → SameAt a b (entry kind p)
   agree-placesUp kind place count same p l h = same (entry kind p) (placesUp-has kind place count p l h)
 
   -- ** Place by place

@@ -25,7 +25,8 @@ pub from-kind-append : (kind : ℕ) (es fs : List ℕ) → FromKind kind es → 
 from-kind-append kind [] fs he hf = hf
 from-kind-append kind (e ∷ es) fs he hf = (he .0, from-kind-append kind es fs (he .1) hf)
 
-pub parts-by-kind : (kind : ℕ) (xs ys : List ℕ) (e f : ℕ) (us vs : List ℕ) → e < kind * 2 ^ 24 → f < kind * 2 ^ 24 → FromKind kind xs → FromKind kind ys
+pub parts-by-kind : (kind : ℕ) (xs ys : List ℕ) (e f : ℕ) (us vs : List ℕ) → e < kind * 2 ^ 24 → f < kind * 2 ^ 24
+    → FromKind kind xs → FromKind kind ys
     → xs ++ (e ∷ us) ≡ ys ++ (f ∷ vs) → (xs ≡ ys) × (e ∷ us ≡ f ∷ vs)
 parts-by-kind kind [] [] e f us vs he hf hx hy h = (refl, h)
 parts-by-kind kind [] (y ∷ ys) e f us vs he hf hx hy h = absurd (let k = head-eq-of-cons-eq h in let g = hy .0 in omega arith)

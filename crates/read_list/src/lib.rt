@@ -43,7 +43,8 @@ pub fn note(kind: u32, place: usize, list: &mut [u32], at: usize)
 // The word at a place of a lent table, with its entry written at the index `at` of a list; the rest of the list is unchanged.
 pub fn listed_word(table: &[u64], kind: u32, place: usize, list: &mut [u32], at: usize) -> u64
     requires { ⌜ (place < length (now table)) × (kind < 2 ^ 8) × (place < 2 ^ 24) × (at < length (now list)) ⌝ }
-    ensures { λ r. ⌜ (r ≡ getD (now (table .entry)) place 0) × (now (list .exit) ≡ set (now (list .entry)) at (entry kind place)) ⌝ }
+    ensures { λ r. ⌜ (r ≡ getD (now (table .entry)) place 0)
+        × (now (list .exit) ≡ set (now (list .entry)) at (entry kind place)) ⌝ }
 {
     note(kind, place, list, at);
     table[place]
@@ -52,7 +53,8 @@ pub fn listed_word(table: &[u64], kind: u32, place: usize, list: &mut [u32], at:
 // The value at a place of a lent key, with its entry written at the index `at` of a list; the rest of the list is unchanged.
 pub fn listed_value(key: &[i32], kind: u32, place: usize, list: &mut [u32], at: usize) -> i32
     requires { ⌜ (place < length (now key)) × (kind < 2 ^ 8) × (place < 2 ^ 24) × (at < length (now list)) ⌝ }
-    ensures { λ r. ⌜ (r ≡ getD (now (key .entry)) place (pos 0)) × (now (list .exit) ≡ set (now (list .entry)) at (entry kind place)) ⌝ }
+    ensures { λ r. ⌜ (r ≡ getD (now (key .entry)) place (pos 0))
+        × (now (list .exit) ≡ set (now (list .entry)) at (entry kind place)) ⌝ }
 {
     note(kind, place, list, at);
     key[place]

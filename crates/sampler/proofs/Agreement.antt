@@ -17,8 +17,10 @@ record SameFrom (bitOf bitOf′ : ℕ → Bool) (sampleOf sampleOf′ : ℕ → 
   samples : samplesFrom sampleOf t (bitsFrom bitOf t left wanted) ≡ samplesFrom sampleOf′ t (bitsFrom bitOf t left wanted)
 
 module _ (e : ℕ → ℕ) {a b : Lent} where
-  same-from : (t before left wanted : ℕ) → 4 * (t + left) ≤ 2 ^ 24 → Agree a b (entriesFrom t before (bitsFrom (bitAt e (a .cdt) (a .words)) t left wanted))
-      → SameFrom (bitAt e (a .cdt) (a .words)) (bitAt e (b .cdt) (b .words)) (sampleAt (a .cdt) (a .words)) (sampleAt (b .cdt) (b .words)) t left wanted
+  same-from : (t before left wanted : ℕ) → 4 * (t + left) ≤ 2 ^ 24
+      → Agree a b (entriesFrom t before (bitsFrom (bitAt e (a .cdt) (a .words)) t left wanted))
+      → SameFrom (bitAt e (a .cdt) (a .words)) (bitAt e (b .cdt) (b .words))
+      (sampleAt (a .cdt) (a .words)) (sampleAt (b .cdt) (b .words)) t left wanted
   unfolding bitsFrom samplesFrom entriesFrom
   same-from t before zero wanted h same = record { bits = refl; samples = refl }
   same-from t before (suc left) zero h same = record { bits = refl; samples = refl }
@@ -28,14 +30,18 @@ module _ (e : ℕ → ℕ) {a b : Lent} where
       let here-bit = same-bit t _ (omega arith) here e in
       let here-sample = same-sample t _ (omega arith) here in
       let later = same-from (suc t) _ left (stillWanted one wanted) (omega arith) (agree-rest (attemptEntries t _) _ same) in
+      let by-bit = ap (λ (x : Bool). bitsFrom (bitAt e (b .cdt) (b .words)) (suc t) left (stillWanted x wanted)) here-bit in
       record {
-        bits = ap₂ _∷_ here-bit (later .bits ∙ ap (λ (x : Bool). bitsFrom (bitAt e (b .cdt) (b .words)) (suc t) left (stillWanted x wanted)) here-bit);
+        bits = ap₂ _∷_ here-bit (later .bits ∙ by-bit);
         samples = ap₂ (λ (x : ℤ) (xs : List ℤ). cond one (x ∷ xs) xs) here-sample (later .samples);
       }
 
 -- a draw whose words are named by places below 2 ^ 24
-module _ (e : ℕ → ℕ) {a b : Lent} (n limit want : ℕ) (h : 4 * limit ≤ 2 ^ 24) (same : Agree a b (drawEntries n (drawBits e (a .cdt) (a .words) limit want))) where
-  whole : SameFrom (bitAt e (a .cdt) (a .words)) (bitAt e (b .cdt) (b .words)) (sampleAt (a .cdt) (a .words)) (sampleAt (b .cdt) (b .words)) 0 limit want
+module _ (e : ℕ → ℕ) {a b : Lent} (n limit want : ℕ) (h : 4 * limit ≤ 2 ^ 24)
+    (same : Agree a b (drawEntries n (drawBits e (a .cdt) (a .words) limit want))) where
+  whole :
+      SameFrom (bitAt e (a .cdt) (a .words)) (bitAt e (b .cdt) (b .words))
+      (sampleAt (a .cdt) (a .words)) (sampleAt (b .cdt) (b .words)) 0 limit want
   unfolding drawEntries drawBits
   whole = same-from e 0 0 limit want (omega arith) (agree-tail same)
 
@@ -43,6 +49,8 @@ module _ (e : ℕ → ℕ) {a b : Lent} (n limit want : ℕ) (h : 4 * limit ≤ 
   unfolding drawBits
   same-bits = whole .bits
 
-  pub same-y : drawY (a .cdt) (a .words) want (drawBits e (a .cdt) (a .words) limit want) ≡ drawY (b .cdt) (b .words) want (drawBits e (b .cdt) (b .words) limit want)
+  pub same-y :
+      drawY (a .cdt) (a .words) want (drawBits e (a .cdt) (a .words) limit want)
+      ≡ drawY (b .cdt) (b .words) want (drawBits e (b .cdt) (b .words) limit want)
   unfolding drawBits drawY
   same-y = rw (whole .samples, whole .bits)

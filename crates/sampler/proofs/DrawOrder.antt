@@ -30,13 +30,16 @@ module _ (sampleOf : ℕ → ℤ) where
   as-many t (false ∷ bits) = as-many (suc t) bits ∙ sym (zero-add (accepted bits))
 
   -- the sample of an accepted attempt stands behind those accepted before
-  stands : (t : ℕ) (bits : List Bool) (k : ℕ) → k < length bits → getD bits k false ≡ true → getD (samplesFrom sampleOf t bits) (accepted (take k bits)) (pos 0) ≡ sampleOf (t + k)
+  stands : (t : ℕ) (bits : List Bool) (k : ℕ) → k < length bits → getD bits k false ≡ true
+      → getD (samplesFrom sampleOf t bits) (accepted (take k bits)) (pos 0) ≡ sampleOf (t + k)
   unfolding samplesFrom accepted
   stands t [] k h e = absurd (not-suc-le-zero h)
   stands t (true ∷ bits) zero h e = ap sampleOf (sym (add-zero t))
   stands t (false ∷ bits) zero h e = absurd (false≢true e)
-  stands t (true ∷ bits) (suc k) h e = rw (one-more (accepted (take k bits))) (stands (suc t) bits k (le-of-suc-le-suc h) e ∙ ap sampleOf (omega arith))
-  stands t (false ∷ bits) (suc k) h e = rw (zero-add (accepted (take k bits))) (stands (suc t) bits k (le-of-suc-le-suc h) e ∙ ap sampleOf (omega arith))
+  stands t (true ∷ bits) (suc k) h e =
+      rw (one-more (accepted (take k bits))) (stands (suc t) bits k (le-of-suc-le-suc h) e ∙ ap sampleOf (omega arith))
+  stands t (false ∷ bits) (suc k) h e =
+      rw (zero-add (accepted (take k bits))) (stands (suc t) bits k (le-of-suc-le-suc h) e ∙ ap sampleOf (omega arith))
 
 pub samples-in-order : SamplesInOrder
 unfolding drawY
@@ -55,10 +58,12 @@ behind-at : (t before m : ℕ) (rest : List ℕ) → getD (attemptEntries t befo
 behind-at t before m rest = rw (← length-attempt t before) (getD-append-add (attemptEntries t before) rest m 0)
 
 -- the entries of attempt k of those from t on
-attempts-listed : (t before : ℕ) (bits : List Bool) (k : ℕ) → k < length bits → take 46 (drop (46 * k) (entriesFrom t before bits)) ≡ attemptEntries (t + k) (before + accepted (take k bits))
+attempts-listed : (t before : ℕ) (bits : List Bool) (k : ℕ) → k < length bits
+    → take 46 (drop (46 * k) (entriesFrom t before bits)) ≡ attemptEntries (t + k) (before + accepted (take k bits))
 unfolding entriesFrom accepted
 attempts-listed t before [] k h = absurd (not-suc-le-zero h)
-attempts-listed t before (b ∷ bits) zero h = rw (add-zero t, add-zero before) (take-at (attemptEntries t before) _ 46 (length-attempt t before))
+attempts-listed t before (b ∷ bits) zero h =
+    rw (add-zero t, add-zero before) (take-at (attemptEntries t before) _ 46 (length-attempt t before))
 attempts-listed t before (b ∷ bits) (suc k) h =
     let next : 46 * suc k ≡ 46 + 46 * k = omega arith in
     rw (next, behind t before (46 * k)) (attempts-listed (suc t) (before + bit b) bits k (le-of-suc-le-suc h)

@@ -29,7 +29,8 @@ module _ (bitOf : ℕ → Bool) where
   all-with-its-own false wanted count h = omega arith
 
   -- an attempt, and then the others
-  one-attempt : (t left wanted : ℕ) (bits : List Bool) → Stops bitOf (suc t) left (stillWanted (bitOf t) wanted) bits → Stops bitOf t (suc left) (suc wanted) (bitOf t ∷ bits)
+  one-attempt : (t left wanted : ℕ) (bits : List Bool) → Stops bitOf (suc t) left (stillWanted (bitOf t) wanted) bits
+      → Stops bitOf t (suc left) (suc wanted) (bitOf t ∷ bits)
   unfolding accepted
   one-attempt t left wanted bits s = record {
     within = omega (arith, s .within);

@@ -40,10 +40,12 @@ length-drawEntries n bits = omega (arith, length-entries bits 0 0)
 -- ** What they tell
 
 -- the last entry of an attempt tells how many samples are accepted before it
-attempt-tells : (t before before′ : ℕ) (rest rest′ : List ℕ) → attemptEntries t before ++ rest ≡ attemptEntries t before′ ++ rest′ → (before ≡ before′) × (rest ≡ rest′)
+attempt-tells : (t before before′ : ℕ) (rest rest′ : List ℕ) → attemptEntries t before ++ rest ≡ attemptEntries t before′ ++ rest′
+    → (before ≡ before′) × (rest ≡ rest′)
 unfolding attemptEntries placesUp placesDown
 attempt-tells t before before′ rest rest′ h =
-    let parts = parts-of-one-length (attemptEntries t before) (attemptEntries t before′) rest rest′ (length-attempt t before ∙ sym (length-attempt t before′)) h in
+    let same = length-attempt t before ∙ sym (length-attempt t before′) in
+    let parts = parts-of-one-length (attemptEntries t before) (attemptEntries t before′) rest rest′ same h in
     let last = ap (λ (l : List ℕ). getD l 45 0) (parts .0) in
     (omega arith, parts .1)
 
@@ -65,7 +67,8 @@ attempts-tell t before before′ (b ∷ bits) (b′ ∷ bits′) rest rest′ fe
     let sum = k .0 in
     (same, ap₂ _∷_ (bit-injective b b′ (omega arith)) (k .1), k .2)
 
-pub draw-tells : (n m : ℕ) (bits bits′ : List Bool) (rest rest′ : List ℕ) → length bits ≤ 2 ^ 24 → length bits′ ≤ 2 ^ 24 → drawEntries n bits ++ rest ≡ drawEntries m bits′ ++ rest′
+pub draw-tells : (n m : ℕ) (bits bits′ : List Bool) (rest rest′ : List ℕ) → length bits ≤ 2 ^ 24 → length bits′ ≤ 2 ^ 24
+    → drawEntries n bits ++ rest ≡ drawEntries m bits′ ++ rest′
     → (n ≡ m) × (bits ≡ bits′) × (rest ≡ rest′)
 unfolding drawEntries
 draw-tells n m bits bits′ rest rest′ few few′ h =

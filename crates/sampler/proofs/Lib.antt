@@ -1,5 +1,7 @@
 pub mod DrawTells
-pub mod DrawLaws
+pub mod BitsLeft
+pub mod DrawByAttempts
+pub mod WholeDraw
 pub mod Agreement
 pub mod DrawStops
 pub mod DrawOrder

@@ -93,7 +93,9 @@ pub record Stops (bitOf : ℕ → Bool) (t limit want : ℕ) (bits : List Bool) 
 
 -- the bits of a draw are such
 abbrev pub DrawStops : Type 0
-DrawStops = (e : ℕ → ℕ) (cdt words : List ℕ) (limit want : ℕ) → Stops (bitAt e cdt words) 0 limit want (drawBits e cdt words limit want)
+DrawStops =
+    (e : ℕ → ℕ) (cdt words : List ℕ) (limit want : ℕ) →
+    Stops (bitAt e cdt words) 0 limit want (drawBits e cdt words limit want)
 
 -- the samples of accepted attempts, each behind those accepted before it
 pub record InOrder (sampleOf : ℕ → ℤ) (bits : List Bool) (y : List ℤ) : Type 0 where
@@ -118,4 +120,6 @@ DrawLists = (n : ℕ) (bits : List Bool) → Listed n bits (drawEntries n bits)
 
 -- a draw lists no more
 abbrev pub DrawEntriesAtMost : Type 0
-DrawEntriesAtMost = (e : ℕ → ℕ) (cdt words : List ℕ) (n limit want : ℕ) → length (drawEntries n (drawBits e cdt words limit want)) ≤ drawListLength limit
+DrawEntriesAtMost =
+    (e : ℕ → ℕ) (cdt words : List ℕ) (n limit want : ℕ) →
+    length (drawEntries n (drawBits e cdt words limit want)) ≤ drawListLength limit

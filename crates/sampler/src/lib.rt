@@ -30,8 +30,15 @@ pub fn draw(
     list: &mut [u32],
 ) -> Counts
     requires { ⌜ Tables (now cdt) (now table) reciprocal ⌝ }
-    requires { ⌜ (degree ≤ 2 ^ 20) × (limit ≤ 2 ^ 20) × (4 * limit ≤ length (now words)) × (length (now y) ≡ 2 * degree) × (drawListLength limit ≤ length (now list)) ⌝ }
-    ensures { λ r. ⌜ record { counts = r; y = now (y .exit); list = now (list .exit) } ≡ sampledBy degree (now (cdt .entry)) (now (words .entry)) (drawBits (expScaled (now (table .entry)) reciprocal) (now (cdt .entry)) (now (words .entry)) limit (2 * degree)) (now (list .entry)) ⌝ }
+    requires { ⌜ (degree ≤ 2 ^ 20)
+        × (limit ≤ 2 ^ 20)
+        × (4 * limit ≤ length (now words))
+        × (length (now y) ≡ 2 * degree)
+        × (drawListLength limit ≤ length (now list)) ⌝ }
+    ensures { λ r. ⌜ record { counts = r; y = now (y .exit); list = now (list .exit) }
+        ≡ sampledBy degree (now (cdt .entry)) (now (words .entry))
+        (drawBits (expScaled (now (table .entry)) reciprocal) (now (cdt .entry)) (now (words .entry)) limit (2 * degree))
+        (now (list .entry)) ⌝ }
 {
     let want = 2 * degree;
     read_list::note(read_list::DRAW, degree, list, 0);

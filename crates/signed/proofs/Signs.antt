@@ -98,5 +98,6 @@ pub record SignOf (bit : ℕ) : Type 0 where
 
 pub sign-of : (bit : ℕ) → bit < 2 → SignOf bit
 sign-of zero h = record { double-fits = record { sfits = lit< tt }; fits = record { sfits = lit< tt }; value = refl; small = omega arith }
-sign-of (suc zero) h = record { double-fits = record { sfits = lit< tt }; fits = record { sfits = lit< tt }; value = refl; small = omega arith }
+sign-of (suc zero) h =
+    record { double-fits = record { sfits = lit< tt }; fits = record { sfits = lit< tt }; value = refl; small = omega arith }
 sign-of (suc (suc n)) h = absurd (not-suc-le-zero (le-of-suc-le-suc (le-of-suc-le-suc h)))

@@ -15,7 +15,8 @@ use Rattle.signed.proofs.Signs.{abs-add, abs-mul}
 -- ** Ranges
 
 -- the first value is within the bound, and the others are
-pub within-parts : (bound : ℕ) (v : ℤ) (values : List ℤ) → allWithin bound (v ∷ values) ≡ true → (natAbs v ≤ bound) × (allWithin bound values ≡ true)
+pub within-parts : (bound : ℕ) (v : ℤ) (values : List ℤ) → allWithin bound (v ∷ values) ≡ true
+    → (natAbs v ≤ bound) × (allWithin bound values ≡ true)
 unfolding allWithin
 within-parts bound v values h =
     let parts = and-eq-true-iff (leb (natAbs v) bound) (allWithin bound values) .0 h in
@@ -25,7 +26,8 @@ pub within-none : (bound : ℕ) → allWithin bound [] ≡ true
 unfolding allWithin
 within-none bound = refl
 
-pub within-more : (bound : ℕ) (v : ℤ) (values : List ℤ) → natAbs v ≤ bound → allWithin bound values ≡ true → allWithin bound (v ∷ values) ≡ true
+pub within-more : (bound : ℕ) (v : ℤ) (values : List ℤ) → natAbs v ≤ bound → allWithin bound values ≡ true
+    → allWithin bound (v ∷ values) ≡ true
 unfolding allWithin
 within-more bound v values h g = rw (le-leb (natAbs v) bound h, g)
 
@@ -35,9 +37,12 @@ within-at bound [] h i = omega arith
 within-at bound (v ∷ values) h zero = within-parts bound v values h .0
 within-at bound (v ∷ values) h (suc i) = within-at bound values (within-parts bound v values h .1) i
 
-pub within-append : (bound : ℕ) (as′ bs : List ℤ) → allWithin bound as′ ≡ true → allWithin bound bs ≡ true → allWithin bound (as′ ++ bs) ≡ true
+pub within-append : (bound : ℕ) (as′ bs : List ℤ) → allWithin bound as′ ≡ true → allWithin bound bs ≡ true
+    → allWithin bound (as′ ++ bs) ≡ true
 within-append bound [] bs h g = g
-within-append bound (a ∷ as′) bs h g = let parts = within-parts bound a as′ h in within-more bound a (as′ ++ bs) (parts .0) (within-append bound as′ bs (parts .1) g)
+within-append bound (a ∷ as′) bs h g =
+    let parts = within-parts bound a as′ h in
+    within-more bound a (as′ ++ bs) (parts .0) (within-append bound as′ bs (parts .1) g)
 
 -- ** The sum of squares
 

@@ -15,15 +15,22 @@ count-fails : (n count : ℕ) → (ltb 64 count || ltb n count) ≡ not (lengthF
 unfolding allHold orFails
 count-fails n count = rw (below-not-above 64 count, below-not-above n count) (one-fails (leb count 64) (leb count n ∷ []))
 
-fits : (c : tie.Else1) → let a = c .before .before .args in lengthFits (a .n) (length (a .challenge .now)) ≡ true
+-- ** The states, each from the one after it
+
+abbrev start : tie.After-shared-slice-known → tie.Start
+start c = c .before
+
+-- ** What the code asks for
+
+fits : (c : tie.Else1) → let a = start (c .before) .args in lengthFits (a .n) (length (a .challenge .now)) ≡ true
 fits c =
-    let a = c .before .before .args in
+    let a = start (c .before) .args in
     holds-else (count-fails (a .n) (length (a .challenge .now))) (c .if1 .left)
 
 returns : tie.Need-returns
 unfolding arePositions
 returns c =
-    let a = c .before .before .args in
+    let a = start (c .before) .args in
     let count = length (a .challenge .now) in
     rw (fails-then {test = lengthFits (a .n) count} (count-fails (a .n) count) (c .if1 .taken))
 

@@ -28,6 +28,16 @@ Inv-loop challenge k₀ k = (1 ≤ k) × (k - 1 ≤ length challenge - 1) × (al
 abbrev μ-loop : tie.MeasureT-loop
 μ-loop challenge k₀ k = length challenge - k
 
+-- ** The states, each from the one after it
+
+abbrev start : tie.At-loop Inv-loop μ-loop → tie.Start Inv-loop μ-loop
+start c = c .before
+
+abbrev turn : tie.After-shared-slice-known2 Inv-loop μ-loop → tie.In-loop Inv-loop μ-loop
+turn c = c .before .before
+
+-- ** What the code asks for
+
 loop-holds : tie.Need-loop-holds Inv-loop μ-loop
 loop-holds c = (omega arith, omega arith, all-none _)
 
@@ -49,9 +59,11 @@ shared-slice-read-if1-2 c = omega arith
 returns : tie.Need-returns Inv-loop μ-loop
 unfolding ascends
 returns c =
-    let t = c .before .before .before .before .loop in
-    let challenge = c .before .before .before .before .before .args .challenge .now in
-    sym (all-broken (rises challenge) (t .k - 1) _ (omega arith) (compared challenge (t .k) (t .inv .0) ∙ le-ltb (getD challenge (t .k - 1) 0) (getD challenge (t .k) 0) (omega arith)))
+    let l = turn (c .before) .before in
+    let t = l .loop in
+    let challenge = start l .args .challenge .now in
+    let falls = le-ltb (getD challenge (t .k - 1) 0) (getD challenge (t .k) 0) (omega arith) in
+    sym (all-broken (rises challenge) (t .k - 1) _ (omega arith) (compared challenge (t .k) (t .inv .0) ∙ falls))
 
 add-k : tie.Need-add-k Inv-loop μ-loop
 add-k c = omega arith
@@ -61,10 +73,13 @@ loop-less c = omega arith
 
 loop-again : tie.Need-loop-again Inv-loop μ-loop
 loop-again c =
-    let t = c .before .before .before .before .loop in
-    let challenge = c .before .before .before .before .before .args .challenge .now in
+    let l = turn (c .before) .before in
+    let t = l .loop in
+    let challenge = start l .args .challenge .now in
     let e : t .k + 1 - 1 ≡ t .k - 1 + 1 = omega arith in
-    (omega arith, omega arith, ap (allBelow (rises challenge)) e ∙ all-more (rises challenge) (t .k - 1) (t .inv .2) (compared challenge (t .k) (t .inv .0) ∙ lt-ltb (getD challenge (t .k - 1) 0) (getD challenge (t .k) 0) (omega arith)))
+    let next = lt-ltb (getD challenge (t .k - 1) 0) (getD challenge (t .k) 0) (omega arith) in
+    let more = all-more (rises challenge) (t .k - 1) (t .inv .2) (compared challenge (t .k) (t .inv .0) ∙ next) in
+    (omega arith, omega arith, ap (allBelow (rises challenge)) e ∙ more)
 
 returns-2 : tie.Need-returns-2 Inv-loop μ-loop
 unfolding ascends
@@ -75,4 +90,5 @@ returns-2 c =
 pub ascending-spec : {M : Type 1} → statement M
 ascending-spec =
     tie.close
-    (tie.spec Inv-loop μ-loop loop-holds mul-if1 shared-slice-read-if1 sub-if1 mul-if1-2 shared-slice-read-if1-2 returns add-k loop-less loop-again returns-2)
+    (tie.spec Inv-loop μ-loop loop-holds mul-if1 shared-slice-read-if1 sub-if1 mul-if1-2 shared-slice-read-if1-2
+    returns add-k loop-less loop-again returns-2)

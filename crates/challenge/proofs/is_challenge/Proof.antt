@@ -25,7 +25,8 @@ returns : tie.Need-returns
 unfolding isChallenge
 returns c =
     let a = c .before .before .args in
-    rw (c .are-positions .ensures) (ap (λ (t : Bool). t && arePositions (a .n) (a .challenge .now)) (some-not-none (length (a .challenge .now))))
+    let some = some-not-none (length (a .challenge .now)) in
+    rw (c .are-positions .ensures) (ap (λ (t : Bool). t && arePositions (a .n) (a .challenge .now)) some)
 
 pub is-challenge-spec : {M : Type 1} → statement M
 is-challenge-spec = tie.close (tie.spec are-positions-requires returns)

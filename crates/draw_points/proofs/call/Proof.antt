@@ -62,22 +62,7 @@ returns c = tt
 pub call-spec : {M : Type 1} → statement M
 call-spec =
     tie.close
-    (tie.spec
-    opening-requires
-    cast-number
-    number-requires
-    slice-aggregate-write-all
-    write-all-requires
-    words-of-requires
-    element-copy-out-at-most
-    at-most-requires
-    element-copy-out-at-most-2
-    at-most-requires-2
-    element-copy-out-at-most-3
-    at-most-requires-3
-    slice-aggregate-show-draw
-    slice-aggregate-show-draw-2
-    array-share-prefix-words
-    slice-aggregate-show-draw-3
-    show-draw-requires
-    returns)
+    (tie.spec opening-requires cast-number number-requires slice-aggregate-write-all write-all-requires
+    words-of-requires element-copy-out-at-most at-most-requires element-copy-out-at-most-2 at-most-requires-2
+    element-copy-out-at-most-3 at-most-requires-3 slice-aggregate-show-draw slice-aggregate-show-draw-2
+    array-share-prefix-words slice-aggregate-show-draw-3 show-draw-requires returns)

@@ -49,17 +49,5 @@ returns c = search needs
 pub columns-spec : {M : Type 1} → statement M
 columns-spec =
     tie.close
-    (tie.spec
-    Inv-loop
-    μ-loop
-    loop-holds
-    mul-row
-    array-read-row
-    element-copy-out-digit
-    digit-requires
-    mul-row-2
-    array-write-row
-    add-i
-    loop-less
-    loop-again
-    returns)
+    (tie.spec Inv-loop μ-loop loop-holds mul-row array-read-row element-copy-out-digit digit-requires mul-row-2
+    array-write-row add-i loop-less loop-again returns)

@@ -47,17 +47,6 @@ returns c = tt
 pub draw-spec : {M : Type 1} → statement M
 draw-spec =
     tie.close
-    (tie.spec
-    element-copy-out-at-most
-    at-most-requires
-    element-copy-out-at-most-2
-    at-most-requires-2
-    element-copy-out-draw
-    slice-relend-prefix-draw
-    slice-aggregate-draw
-    slice-relend-prefix-draw-2
-    slice-aggregate-draw-2
-    draw-requires
-    same-length
-    same-length-2
-    returns)
+    (tie.spec element-copy-out-at-most at-most-requires element-copy-out-at-most-2 at-most-requires-2
+    element-copy-out-draw slice-relend-prefix-draw slice-aggregate-draw slice-relend-prefix-draw-2
+    slice-aggregate-draw-2 draw-requires same-length same-length-2 returns)

@@ -34,13 +34,4 @@ returns c = tt
 pub draws-spec : {M : Type 1} → statement M
 draws-spec =
     tie.close
-    (tie.spec
-    Inv-loop
-    μ-loop
-    loop-holds
-    next-row-requires
-    call-requires
-    sub-left
-    loop-less
-    loop-again
-    returns)
+    (tie.spec Inv-loop μ-loop loop-holds next-row-requires call-requires sub-left loop-less loop-again returns)

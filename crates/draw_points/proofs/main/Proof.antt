@@ -50,18 +50,5 @@ returns-2 c = tt
 pub main-spec : {M : Type 1} → statement M
 main-spec =
     tie.close
-    (tie.spec
-    Inv-loop
-    μ-loop
-    loop-holds
-    next-row-requires
-    next-row-requires-2
-    array-read-count
-    returns
-    slice-aggregate-draws
-    slice-aggregate-draws-2
-    draws-requires
-    sub-left
-    loop-less
-    loop-again
-    returns-2)
+    (tie.spec Inv-loop μ-loop loop-holds next-row-requires next-row-requires-2 array-read-count returns
+    slice-aggregate-draws slice-aggregate-draws-2 draws-requires sub-left loop-less loop-again returns-2)

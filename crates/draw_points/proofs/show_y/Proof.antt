@@ -45,4 +45,5 @@ returns c = tt
 pub show-y-spec : {M : Type 1} → statement M
 show-y-spec =
     tie.close
-    (tie.spec Inv-loop μ-loop loop-holds mul-signed-number shared-slice-copy-out-signed-number signed-number-requires add-i loop-less loop-again slice-aggregate-write-all write-all-requires returns)
+    (tie.spec Inv-loop μ-loop loop-holds mul-signed-number shared-slice-copy-out-signed-number signed-number-requires
+    add-i loop-less loop-again slice-aggregate-write-all write-all-requires returns)

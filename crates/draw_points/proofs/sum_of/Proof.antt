@@ -44,4 +44,5 @@ returns c = tt
 pub sum-of-spec : {M : Type 1} → statement M
 sum-of-spec =
     tie.close
-    (tie.spec Inv-loop μ-loop loop-holds mul-sum mul-widened shared-slice-read-widened widened-requires add-sum add-i loop-less loop-again returns)
+    (tie.spec Inv-loop μ-loop loop-holds mul-sum mul-widened shared-slice-read-widened widened-requires add-sum add-i
+    loop-less loop-again returns)

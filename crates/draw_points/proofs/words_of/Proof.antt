@@ -40,14 +40,5 @@ returns c = search needs
 pub words-of-spec : {M : Type 1} → statement M
 words-of-spec =
     tie.close
-    (tie.spec
-    Inv-loop
-    μ-loop
-    loop-holds
-    word-at-requires
-    mul-words
-    array-write-words
-    add-i
-    loop-less
-    loop-again
+    (tie.spec Inv-loop μ-loop loop-holds word-at-requires mul-words array-write-words add-i loop-less loop-again
     returns)

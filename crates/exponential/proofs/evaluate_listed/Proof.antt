@@ -1,5 +1,5 @@
--- `exponential::evaluate_listed` meets its contract. The loop's invariant: the evaluation is under way, and the entries left, from the list as
--- it is, give the list. Assumes nothing.
+-- `exponential::evaluate_listed` meets its contract. The loop's invariant: the evaluation is under way, and the entries left, from the
+-- list as it is, give the list. Assumes nothing.
 use borrow.Author.Needs.{needs}
 use mathlib.Core.Path.{_≡_, refl, _∙_}
 use mathlib.Core.List.{List}
@@ -10,7 +10,8 @@ use lib.ListN.{length, length-set}
 use lib.Seq.{sets}
 use Rattle.read_list.specs.Entries.{placesDown}
 use Rattle.read_list.proofs.Runs.{placesDown-step, placesDown-end}
-use Rattle.exponential.proofs.Steps.{table-length, Evaluating, evaluating-starts, evaluating-asks, evaluating-goes-on, evaluating-ends}
+use Rattle.exponential.proofs.Steps.{table-length}
+use Rattle.exponential.proofs.Steps.{Evaluating, evaluating-starts, evaluating-asks, evaluating-goes-on, evaluating-ends}
 use Rattle.exponential.proofs.evaluate_listed.Statement.{statement}
 use Rattle.exponential.proofs.evaluate_listed.Tie as tie
 
@@ -27,6 +28,19 @@ Inv-loop table v list₀ at a₀ j₀ place₀ list a j place = Turn table v at 
 abbrev μ-loop : tie.MeasureT-loop
 μ-loop table v list₀ at a₀ j₀ place₀ list a j place = j
 
+-- ** The states, each from the one after it
+
+abbrev start : tie.At-loop Inv-loop μ-loop → tie.Start Inv-loop μ-loop
+start c = c .before .before .before
+
+abbrev turn : tie.After-listed-word-arg Inv-loop μ-loop → tie.In-loop Inv-loop μ-loop
+turn c = c .before
+
+abbrev entry-read : tie.After-slice-known2 Inv-loop μ-loop → tie.After-listed-word Inv-loop μ-loop
+entry-read c = c .before .before
+
+-- ** What the code asks for
+
 loop-holds : tie.Need-loop-holds Inv-loop μ-loop
 loop-holds c =
     let s = c .before .before .args in
@@ -37,7 +51,7 @@ sub-j c = omega arith
 
 listed-word-requires : tie.Need-listed-word-requires Inv-loop μ-loop
 listed-word-requires c κs =
-    let s = c .before .before .before .before .before in
+    let s = start (turn c .before) in
     (omega (arith, table-length (s .args .table .now) (s .pre .0)), omega arith, omega arith, omega arith)
 
 add-place : tie.Need-add-place Inv-loop μ-loop
@@ -45,25 +59,24 @@ add-place c = omega arith
 
 next-value-requires : tie.Need-next-value-requires Inv-loop μ-loop
 next-value-requires c κs =
-    let s = c .before .before .before .before .before .before .before .before in
-    let t = c .before .before .before .before .before .loop in
-    let more = c .before .before .before .before .loop-test .taken in
-    let asks = evaluating-asks (s .pre .0) more (t .inv .evaluating) in
-    rw (c .before .before .listed-word .ensures .0) (asks .0, asks .1, s .pre .1)
+    let i = turn (entry-read c .before) in
+    let s = start (i .before) in
+    let asks = evaluating-asks (s .pre .0) (i .loop-test .taken) (i .before .loop .inv .evaluating) in
+    rw (entry-read c .listed-word .ensures .0) (asks .0, asks .1, s .pre .1)
 
 loop-less : tie.Need-loop-less Inv-loop μ-loop
 loop-less c = omega arith
 
 loop-again : tie.Need-loop-again Inv-loop μ-loop
 loop-again c =
-    let s = c .before .before .before .before .before .before .before .before .before in
-    let t = c .before .before .before .before .before .before .loop in
-    let more : 0 < t .j = c .before .before .before .before .before .loop-test .taken in
-    let read = c .before .before .before .listed-word .ensures in
+    let i = turn (entry-read (c .before) .before) in
+    let t = i .before .loop in
+    let more : 0 < t .j = i .loop-test .taken in
+    let read = entry-read (c .before) .listed-word .ensures in
     let e = c .next-value .ensures in
     record {
       here = omega arith;
-      evaluating = rw (e, read .0) (evaluating-goes-on (s .pre .0) more (t .inv .evaluating));
+      evaluating = rw (e, read .0) (evaluating-goes-on (start (i .before) .pre .0) more (t .inv .evaluating));
       room = rw (read .1, length-set) (t .inv .room);
       same = rw (read .1, length-set) (t .inv .same);
       entries = rw (read .1, add-one) (placesDown-step 4 (t .list) (t .place) (t .j) more ∙ t .inv .entries);
@@ -81,4 +94,5 @@ returns c =
 pub evaluate-listed-spec : {M : Type 1} → statement M
 evaluate-listed-spec =
     tie.close
-    (tie.spec Inv-loop μ-loop loop-holds sub-j listed-word-requires add-place next-value-requires loop-less loop-again same-length returns)
+    (tie.spec Inv-loop μ-loop loop-holds sub-j listed-word-requires add-place next-value-requires loop-less loop-again
+    same-length returns)

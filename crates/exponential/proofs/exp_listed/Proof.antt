@@ -4,6 +4,19 @@ use Rattle.exponential.proofs.Steps.{exp-in-steps}
 use Rattle.exponential.proofs.exp_listed.Statement.{statement}
 use Rattle.exponential.proofs.exp_listed.Tie as tie
 
+-- ** The states, each from the one after it
+
+abbrev start : tie.After-mul-shift22 → tie.Start
+start c = c .before .before .before
+
+abbrev scaled : tie.After-evaluate-listed-arg → tie.After-mul-shift22
+scaled c = c .before
+
+abbrev evaluated : tie.After-slice-known2 → tie.After-evaluate-listed
+evaluated c = c .before .before
+
+-- ** What the code asks for
+
 mul-shift22-requires : tie.Need-mul-shift22-requires
 mul-shift22-requires c κs = search needs
 
@@ -18,9 +31,12 @@ same-length c = search needs
 
 returns : tie.Need-returns
 returns c =
-    let ev = c .before .before .before in
-    let a = ev .before .before .before .before .before .args in
-    (exp-in-steps (a .table .now) (a .reciprocal) (a .n) (ev .before .before .mul-shift22 .ensures) (ev .evaluate-listed .ensures .0) (c .power64 .ensures .0), c .power64 .ensures .1, ev .evaluate-listed .ensures .2)
+    let e = evaluated (c .before) in
+    let v = scaled (e .before) in
+    let a = start v .args in
+    let value = e .evaluate-listed .ensures in
+    let power = c .power64 .ensures in
+    (exp-in-steps (a .table .now) (a .reciprocal) (a .n) (v .mul-shift22 .ensures) (value .0) (power .0), power .1, value .2)
 
 pub exp-listed-spec : {M : Type 1} → statement M
 exp-listed-spec =

@@ -59,4 +59,5 @@ returns c = search needs
 pub main-spec : {M : Type 1} → statement M
 main-spec =
     tie.close
-    (tie.spec Inv-loop μ-loop Inv-loop2 μ-loop2 loop-holds mul-show array-read-show show-requires add-i loop-less loop-again loop2-holds show-requires-2 add-n loop2-less loop2-again returns)
+    (tie.spec Inv-loop μ-loop Inv-loop2 μ-loop2 loop-holds mul-show array-read-show show-requires add-i loop-less
+    loop-again loop2-holds show-requires-2 add-n loop2-less loop2-again returns)

@@ -1,4 +1,5 @@
--- `read_list::filled` meets its contract: the test is that of `filledPart`, and a part that starts at 0 starts where the list does. Assumes nothing.
+-- `read_list::filled` meets its contract: the test is that of `filledPart`, and a part that starts at 0 starts where the list does.
+-- Assumes nothing.
 use borrow.Author.Needs.{needs}
 use borrow.Author.Tests.{le-leb, lt-leb}
 use mathlib.Core.Path.{refl, sym}

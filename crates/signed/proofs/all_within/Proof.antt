@@ -56,7 +56,9 @@ module _ (m : ℕ) (h : m < 2 ^ 16) where
   low-fits = zero-minus-fits (toZ w32 m) (rw bound-back (omega arith))
 
   -- as the code has them: read from bits
-  comparisons : (v : ℤ) → SFits w32 v → (ltZ (toZ w32 (ofZ w32 v)) (toZ w32 (ofZ w32 (pos 0 -ℤ toZ w32 m))) || ltZ (toZ w32 m) (toZ w32 (ofZ w32 v))) ≡ not (leb (natAbs v) m)
+  comparisons : (v : ℤ) → SFits w32 v
+      → (ltZ (toZ w32 (ofZ w32 v)) (toZ w32 (ofZ w32 (pos 0 -ℤ toZ w32 m))) || ltZ (toZ w32 m) (toZ w32 (ofZ w32 v)))
+      ≡ not (leb (natAbs v) m)
   comparisons v f = rw (read-back f, read-back low-fits, low-is, bound-back) (outside m v)
 
 -- ** The loop
@@ -66,21 +68,36 @@ joined true t r = refl
 joined false true r = refl
 joined false false r = refl
 
-turn-more : (m : ℕ) (values : List ℤ) (i : ℕ) (o out : Bool) → i < length values → out ≡ not (leb (natAbs (getD values i (pos 0))) m)
-    → (not o && allWithin m (drop i values)) ≡ allWithin m values → (not (o || out) && allWithin m (drop (i + 1) values)) ≡ allWithin m values
+turn-more : (m : ℕ) (values : List ℤ) (i : ℕ) (o out : Bool) → i < length values
+    → out ≡ not (leb (natAbs (getD values i (pos 0))) m)
+    → (not o && allWithin m (drop i values)) ≡ allWithin m values
+    → (not (o || out) && allWithin m (drop (i + 1) values)) ≡ allWithin m values
 unfolding allWithin
 turn-more m values i o out h e inv =
-    rw (e, add-one i) (joined o (leb (natAbs (getD values i (pos 0))) m) (allWithin m (drop (suc i) values)) ∙ rw (drop-cons values i (pos 0)) at inv)
+    rw (e, add-one i)
+    (joined o (leb (natAbs (getD values i (pos 0))) m) (allWithin m (drop (suc i) values)) ∙ rw (drop-cons values i (pos 0)) at inv)
 
-turn-end : (m : ℕ) (values : List ℤ) (i : ℕ) (o : Bool) → i ≡ length values → (not o && allWithin m (drop i values)) ≡ allWithin m values → not o ≡ allWithin m values
+turn-end : (m : ℕ) (values : List ℤ) (i : ℕ) (o : Bool) → i ≡ length values
+    → (not o && allWithin m (drop i values)) ≡ allWithin m values → not o ≡ allWithin m values
 unfolding allWithin
 turn-end m values i o e inv = sym (and-true (not o)) ∙ (rw (e, drop-length values) at inv)
 
 abbrev Inv-loop : tie.InvT-loop
-Inv-loop values bound high low outside₀ i₀ outside i = (i ≤ length values) × ((not outside && allWithin bound (drop i values)) ≡ allWithin bound values)
+Inv-loop values bound high low outside₀ i₀ outside i =
+    (i ≤ length values) × ((not outside && allWithin bound (drop i values)) ≡ allWithin bound values)
 
 abbrev μ-loop : tie.MeasureT-loop
 μ-loop values bound high low outside₀ i₀ outside i = length values - i
+
+-- ** The states, each from the one after it
+
+abbrev start : tie.At-loop Inv-loop μ-loop → tie.Start Inv-loop μ-loop
+start c = c .before
+
+abbrev turn : tie.After-v Inv-loop μ-loop → tie.In-loop Inv-loop μ-loop
+turn c = c .before
+
+-- ** What the code asks for
 
 cast-high : tie.Need-cast-high Inv-loop μ-loop
 cast-high c = search needs
@@ -105,28 +122,21 @@ loop-less c = search needs
 
 loop-again : tie.Need-loop-again Inv-loop μ-loop
 loop-again c =
-    let s = c .before .before .before in
-    let i = c .before .before .loop .i in
+    let l = turn c .before in
+    let t = l .loop in
+    let s = start l in
     let values = s .args .values .now in
-    (omega arith, turn-more (s .args .bound) values i (c .before .before .loop .outside) _ (c .before .loop-test .taken) (comparisons (s .args .bound) (s .pre) (getD values i (pos 0)) (record { sfits = c .v .given })) (c .before .before .loop .inv .1))
+    let out = comparisons (s .args .bound) (s .pre) (getD values (t .i) (pos 0)) (record { sfits = c .v .given }) in
+    (omega arith, turn-more (s .args .bound) values (t .i) (t .outside) _ (turn c .loop-test .taken) out (t .inv .1))
 
 returns : tie.Need-returns Inv-loop μ-loop
 returns c =
-    let values = c .before .before .args .values .now in
-    turn-end (c .before .before .args .bound) values (c .before .loop .i) (c .before .loop .outside) (omega arith) (c .before .loop .inv .1)
+    let a = start (c .before) .args in
+    let t = c .before .loop in
+    turn-end (a .bound) (a .values .now) (t .i) (t .outside) (omega arith) (t .inv .1)
 
 pub all-within-spec : {M : Type 1} → statement M
 all-within-spec =
     tie.close
-    (tie.spec
-    Inv-loop
-    μ-loop
-    cast-high
-    sub-low
-    loop-holds
-    mul-v
-    shared-slice-copy-out-v
-    add-i
-    loop-less
-    loop-again
+    (tie.spec Inv-loop μ-loop cast-high sub-low loop-holds mul-v shared-slice-copy-out-v add-i loop-less loop-again
     returns)

@@ -19,7 +19,8 @@ either-fits : (keep : Bool) (z : ℤ) → SFits w32 z → SFits w32 (cond keep z
 either-fits true z f = f
 either-fits false z f = record { sfits = lit< tt }
 
-value : (c : tie.Start) → toZ w32 (ofZ w32 (c .args .value)) *ℤ toZ w32 (boolByte (c .args .keep)) ≡ cond (c .args .keep) (c .args .value) (pos 0)
+value : (c : tie.Start)
+    → toZ w32 (ofZ w32 (c .args .value)) *ℤ toZ w32 (boolByte (c .args .keep)) ≡ cond (c .args .keep) (c .args .value) (pos 0)
 value c = ap (λ (z : ℤ). z *ℤ toZ w32 (boolByte (c .args .keep))) (read-back (c .fits .value)) ∙ times-bit (c .args .keep) (c .args .value)
 
 cast-result : tie.Need-cast-result

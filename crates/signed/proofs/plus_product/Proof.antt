@@ -16,7 +16,9 @@ fits : (c : tie.Start) → SFits w64 (c .args .a *ℤ c .args .b)
 fits c = fits-of-abs (omega (arith, abs-mul (c .args .a) (c .args .b), small c))
 
 sum-fits : (c : tie.Start) → SFits w64 (c .args .sum +ℤ (c .args .a *ℤ c .args .b))
-sum-fits c = fits-of-abs (lt-of-le-of-lt (abs-add (c .args .sum) (c .args .a *ℤ c .args .b)) (omega (arith, abs-mul (c .args .a) (c .args .b), small c)))
+sum-fits c =
+    let sum = abs-add (c .args .sum) (c .args .a *ℤ c .args .b) in
+    fits-of-abs (lt-of-le-of-lt sum (omega (arith, abs-mul (c .args .a) (c .args .b), small c)))
 
 mul-result : tie.Need-mul-result
 mul-result c = product-fits (c .fits .a) (c .fits .b) (omega (arith, small c))
@@ -25,10 +27,14 @@ cast-result : tie.Need-cast-result
 cast-result c = rw (product-value (c .fits .a) (c .fits .b) (omega (arith, small c))) (fits c)
 
 add-result : tie.Need-add-result
-add-result c = rw (product-value (c .fits .a) (c .fits .b) (omega (arith, small c)), read-back (c .fits .sum), read-back (fits c)) (sum-fits c)
+add-result c =
+    let product = product-value (c .fits .a) (c .fits .b) (omega (arith, small c)) in
+    rw (product, read-back (c .fits .sum), read-back (fits c)) (sum-fits c)
 
 returns : tie.Need-returns
-returns c = rw (product-value (c .fits .a) (c .fits .b) (omega (arith, small c)), read-back (c .fits .sum), read-back (fits c), read-back (sum-fits c))
+returns c =
+    let product = product-value (c .fits .a) (c .fits .b) (omega (arith, small c)) in
+    rw (product, read-back (c .fits .sum), read-back (fits c), read-back (sum-fits c))
 
 pub plus-product-spec : {M : Type 1} → statement M
 plus-product-spec = tie.close (tie.spec mul-result cast-result add-result returns)

@@ -40,19 +40,24 @@ cast-sign : tie.Need-cast-sign
 cast-sign c = rw (sign-read c) (sign-fits c)
 
 small : (c : tie.After-sign-of) → natAbs (c .before .args .value) * natAbs (c .sign-of .result) < 2 ^ 63
-small c = omega (arith, mul-le-mul {n₁ = natAbs (c .before .args .value)} {m₁ = natAbs (c .sign-of .result)} {n₂ = 4611686018427387904} {m₂ = 1} (omega (arith, c .before .pre)) (c .sign-of .ensures .1))
+small c =
+    let v = natAbs (c .before .args .value) in
+    let sign = natAbs (c .sign-of .result) in
+    omega (arith, mul-le-mul {n₁ = v} {m₁ = sign} {n₂ = 2 ^ 62} {m₂ = 1} (omega (arith, c .before .pre)) (c .sign-of .ensures .1))
 
 value : (c : tie.After-sign-of) → c .before .args .value *ℤ c .sign-of .result ≡ pos (natAbs (c .before .args .value))
 value c =
     let v = c .before .args .value in
-    ap (λ (z : ℤ). v *ℤ z) (c .sign-of .ensures .0 ∙ ap sign (bit-is-1 (ltZ (toZ w64 (ofZ w64 v)) (pos 0)) ∙ ap (λ (z : ℤ). ltZ z (pos 0)) (read-back (c .before .fits .value))))
-    ∙ times-own-sign v
+    let bit = bit-is-1 (ltZ (toZ w64 (ofZ w64 v)) (pos 0)) ∙ ap (λ (z : ℤ). ltZ z (pos 0)) (read-back (c .before .fits .value)) in
+    ap (λ (z : ℤ). v *ℤ z) (c .sign-of .ensures .0 ∙ ap sign bit) ∙ times-own-sign v
 
 mul-result : tie.Need-mul-result
 mul-result c = rw (sign-read c) (product-fits (c .before .fits .value) (sign-fits c) (small c))
 
 cast-result : tie.Need-cast-result
-cast-result c = rw (sign-read c, product-value (c .before .fits .value) (sign-fits c) (small c) ∙ value c) (tt, record { fits = omega (arith, c .before .pre) })
+cast-result c =
+    rw (sign-read c, product-value (c .before .fits .value) (sign-fits c) (small c) ∙ value c)
+    (tt, record { fits = omega (arith, c .before .pre) })
 
 returns : tie.Need-returns
 returns c = rw (sign-read c, product-value (c .before .fits .value) (sign-fits c) (small c) ∙ value c)

@@ -19,7 +19,9 @@ mul-result : tie.Need-mul-result
 mul-result c = product-fits (c .fits .value) (c .fits .value) (omega (arith, small c))
 
 cast-result : tie.Need-cast-result
-cast-result c = rw (product-value (c .fits .value) (c .fits .value) (omega (arith, small c)) ∙ square-is (c .args .value)) (tt, record { fits = omega (arith, small c) })
+cast-result c =
+    rw (product-value (c .fits .value) (c .fits .value) (omega (arith, small c)) ∙ square-is (c .args .value))
+    (tt, record { fits = omega (arith, small c) })
 
 returns : tie.Need-returns
 returns c = rw (product-value (c .fits .value) (c .fits .value) (omega (arith, small c)) ∙ square-is (c .args .value))

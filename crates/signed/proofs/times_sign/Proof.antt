@@ -8,7 +8,9 @@ use Rattle.signed.proofs.times_sign.Statement.{statement}
 use Rattle.signed.proofs.times_sign.Tie as tie
 
 small : (c : tie.Start) → natAbs (c .args .value) * natAbs (c .args .by) < 2 ^ 31
-small c = omega (arith, mul-le-mul {n₁ = natAbs (c .args .value)} {m₁ = natAbs (c .args .by)} {n₂ = 65535} {m₂ = 1} (omega arith) (c .pre .1))
+small c =
+    let v = natAbs (c .args .value) in
+    omega (arith, mul-le-mul {n₁ = v} {m₁ = natAbs (c .args .by)} {n₂ = 65535} {m₂ = 1} (omega arith) (c .pre .1))
 
 mul-result : tie.Need-mul-result
 mul-result c = product-fits (c .fits .value) (c .fits .by) (small c)

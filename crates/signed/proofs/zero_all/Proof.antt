@@ -11,10 +11,18 @@ use Rattle.signed.proofs.zero_all.Statement.{statement}
 use Rattle.signed.proofs.zero_all.Tie as tie
 
 abbrev Inv-loop : tie.InvT-loop
-Inv-loop values₀ i₀ values i = (i ≤ length values₀) × (length values ≡ length values₀) × (values ≡ replicate i (pos 0) ++ drop i values₀)
+Inv-loop values₀ i₀ values i =
+    (i ≤ length values₀) × (length values ≡ length values₀) × (values ≡ replicate i (pos 0) ++ drop i values₀)
 
 abbrev μ-loop : tie.MeasureT-loop
 μ-loop values₀ i₀ values i = length values₀ - i
+
+-- ** The states, each from the one after it
+
+abbrev start : tie.At-loop Inv-loop μ-loop → tie.Start Inv-loop μ-loop
+start c = c .before
+
+-- ** What the code asks for
 
 loop-holds : tie.Need-loop-holds Inv-loop μ-loop
 loop-holds c = search needs
@@ -34,7 +42,7 @@ loop-less c = search needs
 loop-again : tie.Need-loop-again Inv-loop μ-loop
 loop-again c =
     let inv = c .before .loop .inv in
-    let d = c .before .before .args .values .now in
+    let d = start (c .before) .args .values .now in
     let i = c .before .loop .i in
     let h : i < length d = omega arith in
     (omega arith, simp length-set (inv .1), ap (λ (l : List ℤ). set l i (pos 0)) (inv .2) ∙ fill-more i (pos 0) d h)
@@ -43,7 +51,7 @@ same-length : tie.Need-same-length Inv-loop μ-loop
 same-length c = search needs
 
 returns : tie.Need-returns Inv-loop μ-loop
-returns c = c .before .loop .inv .2 ∙ fill-all (c .before .loop .i) (pos 0) (c .before .before .args .values .now) (omega arith)
+returns c = c .before .loop .inv .2 ∙ fill-all (c .before .loop .i) (pos 0) (start (c .before) .args .values .now) (omega arith)
 
 pub zero-all-spec : {M : Type 1} → statement M
 zero-all-spec =
