@@ -12,14 +12,14 @@ use Rattle.sampler.specs.Draw.{drawBits, Sampled, sampledBy}
 use Rattle.refusals.proofs.Served.{DrawServed}
 use Rattle.session.specs.declared.Session.{Session}
 use Rattle.session.specs.declared.Drawn.{Drawn}
-use Rattle.session.specs.Calls.{Draw, refusalOfDraw, bitsOfDraw, drawnRefused, drawnServed, drawRefused, drawServed, drawLeft}
+use Rattle.session.specs.Calls.{Draw, drawOf, afterDraw, refusalOfDraw, bitsOfDraw, drawnRefused, drawnServed, drawRefused, drawServed, drawLeft}
 use Rattle.session.proofs.Calls.{draw-passed, served-draw-leaves, refused-draw-leaves}
 use Rattle.session.proofs.Session.draw.Statement.{statement}
 use Rattle.session.proofs.Session.draw.Tie as tie
 
 -- the call, as the definitions have it
 abbrev call : tie.Start → Draw
-call c = let a = c .args in record { limit = a .limit; cdt = a .cdt .now; polynomial = a .polynomial .now; words = a .words .now; y = a .y .now; list = a .list .now }
+call c = let a = c .args in drawOf (a .limit) (a .cdt .now) (a .polynomial .now) (a .words .now) (a .y .now) (a .list .now)
 
 draw-refusal-requires : tie.Need-draw-refusal-requires
 draw-refusal-requires c κs = search needs
@@ -37,10 +37,10 @@ drawn-refused-requires : tie.Need-drawn-refused-requires
 drawn-refused-requires c κs = search needs
 
 refused : (s : Session) (d : Draw) (refusal : ℕ) (drawn : Drawn) → refusal ≡ refusalOfDraw s d → (refusal ≡ 0 → ⊥) → drawn ≡ drawnRefused refusal s
-    → record { drawn = drawn; y = d .y; list = d .list } ≡ drawLeft s d
+    → afterDraw drawn (d .y) (d .list) ≡ drawLeft s d
 unfolding drawRefused
 refused s d refusal drawn e h made =
-    ap (λ (x : Drawn). record { drawn = x; y = d .y; list = d .list }) (made ∙ ap (λ (k : ℕ). drawnRefused k s) e)
+    ap (λ (x : Drawn). afterDraw x (d .y) (d .list)) (made ∙ ap (λ (k : ℕ). drawnRefused k s) e)
     ∙ sym (refused-draw-leaves s d (λ z. h (e ∙ z)))
 
 returns : tie.Need-returns
@@ -73,10 +73,10 @@ drawn-served-requires c κs = degree-range _ (passed (c .before .before .before 
 
 sampled-leaves : (s : Session) (d : Draw) (sampled : Sampled) (drawn : Drawn) → refusalOfDraw s d ≡ 0 → drawn ≡ drawnServed s (sampled .counts)
     → sampled ≡ sampledBy (s .degree) (d .cdt) (d .words) (drawBits (expScaled (d .polynomial) 3269134179596076729) (d .cdt) (d .words) (d .limit) (2 * s .degree)) (d .list)
-    → record { drawn = drawn; y = sampled .y; list = sampled .list } ≡ drawLeft s d
+    → afterDraw drawn (sampled .y) (sampled .list) ≡ drawLeft s d
 unfolding bitsOfDraw drawServed
 sampled-leaves s d sampled drawn h made e =
-    ap (λ (x : Drawn). record { drawn = x; y = sampled .y; list = sampled .list }) made
+    ap (λ (x : Drawn). afterDraw x (sampled .y) (sampled .list)) made
     ∙ ap (drawServed s) (e ∙ ap (λ (f : ℕ → ℕ). sampledBy (s .degree) (d .cdt) (d .words) (drawBits f (d .cdt) (d .words) (d .limit) (2 * s .degree)) (d .list)) (by-215 (d .polynomial)))
     ∙ sym (served-draw-leaves s d h)
 

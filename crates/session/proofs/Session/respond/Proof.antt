@@ -12,7 +12,7 @@ use Rattle.response.specs.Response.{responseBit, Response, respondedBy}
 use Rattle.refusals.proofs.Served.{RespondServed}
 use Rattle.session.specs.declared.Session.{Session}
 use Rattle.session.specs.declared.Responded.{Responded}
-use Rattle.session.specs.Calls.{Respond, refusalOfRespond, bitOfRespond, zOfRespond, respondedRefused, respondedServed, respondRefused, respondServed, respondLeft}
+use Rattle.session.specs.Calls.{Respond, respondOf, afterRespond, refusalOfRespond, bitOfRespond, zOfRespond, respondedRefused, respondedServed, respondRefused, respondServed, respondLeft}
 use Rattle.session.proofs.Calls.{respond-passed, served-respond-leaves, refused-respond-leaves}
 use Rattle.session.proofs.Session.respond.Statement.{statement}
 use Rattle.session.proofs.Session.respond.Tie as tie
@@ -21,7 +21,7 @@ use Rattle.session.proofs.Session.respond.Tie as tie
 abbrev call : tie.Start → Respond
 call c =
     let a = c .args in
-    record { challenge = a .challenge .now; polynomial = a .polynomial .now; words = a .words .now; key = a .key .now; y = a .y .now; z = a .z .now; list = a .list .now }
+    respondOf (a .challenge .now) (a .polynomial .now) (a .words .now) (a .key .now) (a .y .now) (a .z .now) (a .list .now)
 
 respond-refusal-requires : tie.Need-respond-refusal-requires
 respond-refusal-requires c κs = search needs
@@ -42,10 +42,10 @@ same-length : tie.Need-same-length
 same-length c = search needs
 
 refused : (s : Session) (r : Respond) (refusal : ℕ) (responded : Responded) → refusal ≡ refusalOfRespond s r → (refusal ≡ 0 → ⊥) → responded ≡ respondedRefused refusal s
-    → record { responded = responded; y = r .y; z = r .z; list = r .list } ≡ respondLeft s r
+    → afterRespond responded (r .y) (r .z) (r .list) ≡ respondLeft s r
 unfolding respondRefused
 refused s r refusal responded e h made =
-    ap (λ (x : Responded). record { responded = x; y = r .y; z = r .z; list = r .list }) (made ∙ ap (λ (k : ℕ). respondedRefused k s) e)
+    ap (λ (x : Responded). afterRespond x (r .y) (r .z) (r .list)) (made ∙ ap (λ (k : ℕ). respondedRefused k s) e)
     ∙ sym (refused-respond-leaves s r (λ z. h (e ∙ z)))
 
 returns : tie.Need-returns
@@ -81,10 +81,10 @@ responded-served-requires c κs = search needs
 
 response-leaves : (s : Session) (r : Respond) (response : Response) (responded : Responded) → refusalOfRespond s r ≡ 0 → responded ≡ respondedServed s (response .answer)
     → response ≡ respondedBy (s .degree) (responseBit (expScaled (r .polynomial) 3269134179596076729) (r .y) (product (r .key) (s .degree) (r .challenge)) (r .words)) (r .challenge) (zOfRespond s r) (r .list)
-    → record { responded = responded; y = response .y; z = response .z; list = response .list } ≡ respondLeft s r
+    → afterRespond responded (response .y) (response .z) (response .list) ≡ respondLeft s r
 unfolding bitOfRespond respondServed
 response-leaves s r response responded h made e =
-    ap (λ (x : Responded). record { responded = x; y = response .y; z = response .z; list = response .list }) made
+    ap (λ (x : Responded). afterRespond x (response .y) (response .z) (response .list)) made
     ∙ ap (respondServed s) (e ∙ ap (λ (f : ℕ → ℕ). respondedBy (s .degree) (responseBit f (r .y) (product (r .key) (s .degree) (r .challenge)) (r .words)) (r .challenge) (zOfRespond s r) (r .list)) (by-215 (r .polynomial)))
     ∙ sym (served-respond-leaves s r h)
 
