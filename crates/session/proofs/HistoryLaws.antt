@@ -1,24 +1,20 @@
 -- What lists of calls add up to. Assumes nothing.
-use mathlib.Core.Path.{_≡_, refl, ap}
+use mathlib.Core.Path.{_≡_, refl, sym, ap, _∙_}
 use mathlib.Core.Bool.{cond}
 use mathlib.Core.List.{List, [], _∷_, _++_}
 use Prim.Native.Nat.{ℕ}
 use lib.Dec.{eqb}
 use lib.IntN.{ℤ}
 use lib.ListN.{take}
-use lib.Seq.{length-sets}
-use native.Mathlib.Omega.{arith}
 use borrow.Author.Tests.{eq-eqb, ne-eqb}
 use Rattle.read_list.specs.Entries.{filledPart}
-use Rattle.read_list.proofs.FilledPart.{filled-up-to}
-use Rattle.sampler.specs.Draw.{sampledBy}
 use Rattle.response.specs.Response.{respondedBy}
 use Rattle.session.specs.declared.Session.{Session}
-use Rattle.session.specs.Calls.{Draw, refusalOfDraw, drawRefused, drawServed, drawLeft, Respond, refusalOfRespond, bitOfRespond, respondRefused, respondServed, respondLeft}
+use Rattle.session.specs.Calls.{Draw, drawLeft, Respond, bitOfRespond, respondServed, respondLeft}
 use Rattle.session.specs.Histories.{Call, draw, respond, leftBy, refusalIn, nextIn, yIn, lentY, Linked, readList, eventOf, history}
 use Rattle.session.specs.Demand3.{seen}
 use Rattle.session.specs.HistoryLaws.{lending, threaded, AnyCallsLink, NoCallsAddNothing, EveryDrawAdds, EveryRespondAdds}
-use Rattle.session.proofs.Calls.{by-refusal, draw-entries-fit, served-draw-leaves, refused-draw-leaves, respond-entries-fit, served-respond-leaves, refused-respond-leaves}
+use Rattle.session.proofs.Calls.{draw-wrote, respond-left, respond-wrote}
 
 -- ** Any calls can be linked
 
@@ -41,11 +37,7 @@ no-calls-add-nothing s = record { reads = refl; history-is = refl; seen-is = ref
 
 -- what a draw wrote is its filled part, and no more than its list holds
 pub draw-filled : (s : Session) (d : Draw) → let left = drawLeft s d in filledPart (left .list) (left .drawn .answer .entries) ≡ take (left .drawn .answer .entries) (left .list)
-unfolding drawServed drawRefused sampledBy
-draw-filled s d =
-    by-refusal (refusalOfDraw s d)
-    (λ h. rw (served-draw-leaves s d h) (filled-up-to _ _ .up-to (rw length-sets (draw-entries-fit s d h))))
-    (λ h. rw (refused-draw-leaves s d h) (filled-up-to (d .list) 0 .up-to (omega arith)))
+draw-filled s d = draw-wrote s d .filled ∙ sym (draw-wrote s d .taken)
 
 pub every-draw-adds : EveryDrawAdds
 unfolding Linked readList history seen leftBy eventOf
@@ -61,19 +53,12 @@ every-draw-adds s d calls =
     }
 
 pub respond-filled : (s : Session) (r : Respond) → let left = respondLeft s r in filledPart (left .list) (left .responded .answer .entries) ≡ take (left .responded .answer .entries) (left .list)
-unfolding respondServed respondRefused respondedBy
-respond-filled s r =
-    by-refusal (refusalOfRespond s r)
-    (λ h. rw (served-respond-leaves s r h) (filled-up-to _ _ .up-to (rw length-sets (respond-entries-fit s r h))))
-    (λ h. rw (refused-respond-leaves s r h) (filled-up-to (r .list) 0 .up-to (omega arith)))
+respond-filled s r = respond-wrote s r .filled ∙ sym (respond-wrote s r .taken)
 
 -- the bit of the answer is the rule's
 respond-bit : (s : Session) (r : Respond) → let left = respondLeft s r in left .responded .answer .refusal ≡ 0 → bitOfRespond s r ≡ left .responded .answer .bit
-unfolding respondServed respondRefused respondedBy
-respond-bit s r =
-    by-refusal (refusalOfRespond s r)
-    (λ h. rw (served-respond-leaves s r h) (λ g. refl))
-    (λ h. rw (refused-respond-leaves s r h) (λ g. absurd (h g)))
+unfolding respondServed respondedBy
+respond-bit s r h = rw (respond-left s r .where-served h)
 
 pub every-respond-adds : EveryRespondAdds
 unfolding Linked readList history seen leftBy eventOf
