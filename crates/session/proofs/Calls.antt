@@ -7,10 +7,10 @@ use native.Mathlib.Nat.{le-trans}
 use native.Mathlib.Omega.{arith}
 use lib.Dec.{eqb}
 use lib.ListN.{length, take, drop}
-use lib.Seq.{sets}
+use lib.Seq.{sets, length-sets}
 use borrow.Author.Tests.{eq-eqb, ne-eqb}
 use Rattle.read_list.specs.Entries.{filledPart}
-use Rattle.read_list.proofs.FilledPart.{take-written, filled-written, rest-unwritten}
+use Rattle.read_list.proofs.FilledPart.{filled-up-to, take-written, rest-unwritten}
 use Rattle.sampler.specs.Draw.{drawListLength, drawEntries, sampledBy}
 use Rattle.sampler.proofs.DrawTells.{draw-entries-at-most}
 use Rattle.response.specs.Response.{respondEntries, respondedBy}
@@ -80,17 +80,15 @@ written s c = cond (eqb (refusalIn (leftBy s c)) 0) (renderEvent (eventOf s c)) 
 
 -- they stand at the start of the list after the call, as many as are counted, and behind them it is as it was lent
 pub record Wrote (entries lent left : List ℕ) (count : ℕ) : Type 0 where
-  pub count-is : count ≡ length entries
   pub fits : count ≤ length lent
-  pub filled : filledPart left count ≡ entries
+  pub filled : filledPart left count ≡ take count left
   pub taken : take count left ≡ entries
   pub rest : drop count left ≡ drop count lent
 
 wrote : (entries lent : List ℕ) → length entries ≤ length lent → Wrote entries lent (sets lent 0 entries) (length entries)
 wrote entries lent h = record {
-  count-is = refl;
   fits = h;
-  filled = filled-written lent entries h;
+  filled = filled-up-to (sets lent 0 entries) (length entries) .up-to (rw length-sets h);
   taken = take-written lent entries h;
   rest = rest-unwritten lent entries h;
 }
@@ -125,8 +123,8 @@ respond-wrote s r =
 -- a call wrote what it lists
 written-in : (s : Session) (c : Call) → entriesIn (leftBy s c) ≡ written s c
 unfolding leftBy
-written-in s (draw d) = draw-wrote s d .filled
-written-in s (respond r) = respond-wrote s r .filled
+written-in s (draw d) = draw-wrote s d .filled ∙ draw-wrote s d .taken
+written-in s (respond r) = respond-wrote s r .filled ∙ respond-wrote s r .taken
 
 -- a call that is served wrote its event as entries
 pub served-entries : (s : Session) (c : Call) → refusalIn (leftBy s c) ≡ 0 → entriesIn (leftBy s c) ≡ renderEvent (eventOf s c)
