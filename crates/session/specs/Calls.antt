@@ -34,7 +34,7 @@ pub record Draw : Type 0 where
   pub y : List ℤ
   pub list : List ℕ
 
--- the draw of a limit and of lent memory, in the order of the code
+-- the draw with a limit and with what is lent, in the order of the code
 abbrev pub drawOf : (limit : ℕ) (cdt polynomial words : List ℕ) (y : List ℤ) (list : List ℕ) → Draw
 drawOf limit cdt polynomial words y list = record { limit = limit; cdt = cdt; polynomial = polynomial; words = words; y = y; list = list }
 
@@ -44,7 +44,7 @@ pub record DrawLeft : Type 0 where
   pub y : List ℤ
   pub list : List ℕ
 
--- what is left by a draw that hands back a result, with y and the list as they are after it
+-- what is left where a draw hands back a result, with y and the list after it
 abbrev pub afterDraw : (drawn : Drawn) (y : List ℤ) (list : List ℕ) → DrawLeft
 afterDraw drawn y list = record { drawn = drawn; y = y; list = list }
 
@@ -69,11 +69,11 @@ drawnServed s counts = record {
 
 -- what a refused draw leaves: y and the list stay
 unfoldable pub drawRefused : (refusal : ℕ) (s : Session) (d : Draw) → DrawLeft
-drawRefused refusal s d = afterDraw (drawnRefused refusal s) (d .y) (d .list)
+drawRefused refusal s d = record { drawn = drawnRefused refusal s; y = d .y; list = d .list }
 
 -- what a served draw leaves: y and the list are those of the sampling
 unfoldable pub drawServed : (s : Session) (sampled : Sampled) → DrawLeft
-drawServed s sampled = afterDraw (drawnServed s (sampled .counts)) (sampled .y) (sampled .list)
+drawServed s sampled = record { drawn = drawnServed s (sampled .counts); y = sampled .y; list = sampled .list }
 
 -- a draw
 unfoldable pub drawLeft : (s : Session) (d : Draw) → DrawLeft
@@ -94,7 +94,7 @@ pub record Respond : Type 0 where
   pub z : List ℤ
   pub list : List ℕ
 
--- the respond of a challenge and of lent memory, in the order of the code
+-- the respond to a challenge with what is lent, in the order of the code
 abbrev pub respondOf : (challenge polynomial words : List ℕ) (key y z : List ℤ) (list : List ℕ) → Respond
 respondOf challenge polynomial words key y z list = record {
   challenge = challenge;
@@ -113,7 +113,7 @@ pub record RespondLeft : Type 0 where
   pub z : List ℤ
   pub list : List ℕ
 
--- what is left by a respond that hands back a result, with y, z and the list as they are after it
+-- what is left where a respond hands back a result, with y, z and the list after it
 abbrev pub afterRespond : (responded : Responded) (y z : List ℤ) (list : List ℕ) → RespondLeft
 afterRespond responded y z list = record { responded = responded; y = y; z = z; list = list }
 
@@ -144,11 +144,16 @@ respondedServed s answer = record {
 
 -- what a refused respond leaves: y, z and the list stay
 unfoldable pub respondRefused : (refusal : ℕ) (s : Session) (r : Respond) → RespondLeft
-respondRefused refusal s r = afterRespond (respondedRefused refusal s) (r .y) (r .z) (r .list)
+respondRefused refusal s r = record { responded = respondedRefused refusal s; y = r .y; z = r .z; list = r .list }
 
 -- what a served respond leaves: y, z and the list are those of the response
 unfoldable pub respondServed : (s : Session) (response : Response) → RespondLeft
-respondServed s response = afterRespond (respondedServed s (response .answer)) (response .y) (response .z) (response .list)
+respondServed s response = record {
+  responded = respondedServed s (response .answer);
+  y = response .y;
+  z = response .z;
+  list = response .list;
+}
 
 -- a respond
 unfoldable pub respondLeft : (s : Session) (r : Respond) → RespondLeft
