@@ -3,7 +3,7 @@ ghost use mathlib.Core.Path.{_≡_};
 ghost use lib.ListN.{length};
 ghost use Rattle.read_list.specs.Entries.{filledPart};
 ghost use Rattle.exponential.specs.Exponential.{expOrRefusal};
-ghost use Rattle.session.specs.Calls.{opened, drawLeft, respondLeft};
+ghost use Rattle.session.specs.Calls.{opened, drawOf, afterDraw, drawLeft, respondOf, afterRespond, respondLeft};
 use session::Drawn;
 use session::Opened;
 use session::Responded;
@@ -29,7 +29,10 @@ pub extern "C" fn bliss_draw(
     y: &mut [i32],
     list: &mut [u32],
 ) -> Drawn
-    ensures { λ r. ⌜ record { drawn = r; y = now (y .exit); list = now (list .exit) } ≡ drawLeft session (record { limit = limit; cdt = now (cdt .entry); polynomial = now (polynomial .entry); words = now (words .entry); y = now (y .entry); list = now (list .entry) }) ⌝ }
+    ensures { λ r. ⌜
+        afterDraw r (now (y .exit)) (now (list .exit))
+        ≡ drawLeft session (drawOf limit (now (cdt .entry)) (now (polynomial .entry)) (now (words .entry))
+        (now (y .entry)) (now (list .entry))) ⌝ }
 {
     session.draw(limit, cdt, polynomial, words, y, list)
 }
@@ -47,7 +50,10 @@ pub extern "C" fn bliss_respond(
     z: &mut [i32],
     list: &mut [u32],
 ) -> Responded
-    ensures { λ r. ⌜ record { responded = r; y = now (y .exit); z = now (z .exit); list = now (list .exit) } ≡ respondLeft session (record { challenge = now (challenge .entry); polynomial = now (polynomial .entry); words = now (words .entry); key = now (key .entry); y = now (y .entry); z = now (z .entry); list = now (list .entry) }) ⌝ }
+    ensures { λ r. ⌜
+        afterRespond r (now (y .exit)) (now (z .exit)) (now (list .exit))
+        ≡ respondLeft session (respondOf (now (challenge .entry)) (now (polynomial .entry)) (now (words .entry))
+        (now (key .entry)) (now (y .entry)) (now (z .entry)) (now (list .entry))) ⌝ }
 {
     session.respond(challenge, polynomial, words, key, y, z, list)
 }

@@ -1,102 +1,137 @@
--- What a call leaves, by whether it is refused. Assumes nothing.
-use mathlib.Core.Path.{_≡_, refl, sym, _∙_}
-use mathlib.Core.List.{[]}
+-- What a call leaves, by whether it is refused, and what it writes into its list. Assumes nothing.
+use mathlib.Core.Path.{_≡_, refl, sym, ap, _∙_}
+use mathlib.Core.Bool.{cond}
+use mathlib.Core.List.{List, []}
 use Prim.Native.Nat.{ℕ, zero, suc, _*_, _≤_}
 use native.Mathlib.Nat.{le-trans}
 use native.Mathlib.Omega.{arith}
-use lib.ListN.{length}
+use lib.Dec.{eqb}
+use lib.ListN.{length, take, drop}
+use lib.Seq.{sets, length-sets}
 use borrow.Author.Tests.{eq-eqb, ne-eqb}
-use Rattle.read_list.proofs.FilledPart.{filled-written}
+use Rattle.read_list.specs.Entries.{filledPart}
+use Rattle.read_list.proofs.FilledPart.{filled-up-to, take-written, rest-unwritten}
 use Rattle.sampler.specs.Draw.{drawListLength, drawEntries, sampledBy}
 use Rattle.sampler.proofs.DrawTells.{draw-entries-at-most}
 use Rattle.response.specs.Response.{respondEntries, respondedBy}
 use Rattle.response.proofs.RespondTells.{length-respondEntries}
 use Rattle.refusals.proofs.Served.{DrawServed, draw-served, RespondServed, respond-served}
 use Rattle.session.specs.declared.Session.{Session}
-use Rattle.session.specs.Calls.{Draw, refusalOfDraw, bitsOfDraw, drawRefused, drawServed, drawLeft, Respond, refusalOfRespond, bitOfRespond, zOfRespond, respondRefused, respondServed, respondLeft}
+use Rattle.session.specs.Calls.{Draw, DrawLeft, refusalOfDraw, bitsOfDraw, drawRefused, drawServed, drawLeft}
+use Rattle.session.specs.Calls.{Respond, RespondLeft, refusalOfRespond, bitOfRespond, zOfRespond, respondRefused, respondServed, respondLeft}
 use Rattle.session.specs.Histories.{Call, draw, respond, leftBy, refusalIn, entriesIn, eventOf, renderEvent}
+
+-- ** Served or refused
 
 -- a call is served, where its refusal is 0, or refused
 pub by-refusal : {P : Type 0} (refusal : ℕ) → (refusal ≡ 0 → P) → ((refusal ≡ 0 → ⊥) → P) → P
 by-refusal zero served refused = served refl
 by-refusal (suc k) served refused = refused (λ e. omega arith)
 
--- ** A draw
+-- what is left, of which number is the refusal: that of a call that is served, or of one that is refused
+pub record Chosen {A : Type 0} (number : A → ℕ) (refusal : ℕ) (served refused left : A) : Type 0 where
+  pub number-is : number left ≡ refusal
+  pub where-served : number left ≡ 0 → left ≡ served
+  pub where-refused : (number left ≡ 0 → ⊥) → left ≡ refused
 
-module _ (s : Session) (d : Draw) where
-  pub served-draw-leaves : refusalOfDraw s d ≡ 0 → drawLeft s d ≡ drawServed s (sampledBy (s .degree) (d .cdt) (d .words) (bitsOfDraw s d) (d .list))
-  unfolding drawLeft
-  served-draw-leaves h = rw (eq-eqb (refusalOfDraw s d) 0 h)
+pub chosen : {A : Type 0} (number : A → ℕ) (refusal : ℕ) (served refused : A) → number served ≡ 0 → number refused ≡ refusal
+    → Chosen number refusal served refused (cond (eqb refusal 0) served refused)
+chosen number refusal served refused none own =
+    by-refusal refusal
+    (λ h. rw (eq-eqb refusal 0 h) (record { number-is = none ∙ sym h; where-served = λ g. refl; where-refused = λ g. absurd (g none) }))
+    (λ h. rw (ne-eqb refusal 0 h) (record { number-is = own; where-served = λ g. absurd (h (sym own ∙ g)); where-refused = λ g. refl }))
 
-  pub refused-draw-leaves : (refusalOfDraw s d ≡ 0 → ⊥) → drawLeft s d ≡ drawRefused (refusalOfDraw s d) s d
-  unfolding drawLeft
-  refused-draw-leaves h = rw (ne-eqb (refusalOfDraw s d) 0 h)
+pub draw-left : (s : Session) (d : Draw) →
+    Chosen (λ (left : DrawLeft). left .drawn .answer .refusal) (refusalOfDraw s d)
+    (drawServed s (sampledBy (s .degree) (d .cdt) (d .words) (bitsOfDraw s d) (d .list))) (drawRefused (refusalOfDraw s d) s d) (drawLeft s d)
+unfolding drawLeft drawServed drawRefused
+draw-left s d = chosen _ (refusalOfDraw s d) _ _ refl refl
 
-  pub draw-refusal : refusalIn (leftBy s (draw d)) ≡ refusalOfDraw s d
-  unfolding leftBy drawServed drawRefused
-  draw-refusal = by-refusal (refusalOfDraw s d) (λ h. rw (served-draw-leaves h) (sym h)) (λ h. rw (refused-draw-leaves h))
+pub respond-left : (s : Session) (r : Respond) →
+    Chosen (λ (left : RespondLeft). left .responded .answer .refusal) (refusalOfRespond s r)
+    (respondServed s (respondedBy (s .degree) (bitOfRespond s r) (r .challenge) (zOfRespond s r) (r .list))) (respondRefused (refusalOfRespond s r) s r)
+    (respondLeft s r)
+unfolding respondLeft respondServed respondRefused
+respond-left s r = chosen _ (refusalOfRespond s r) _ _ refl refl
 
-  -- what is known of a draw that is served
-  pub draw-passed : refusalOfDraw s d ≡ 0 → DrawServed (s .degree) (d .limit) (d .cdt) (d .polynomial) (length (d .words)) (length (d .y)) (length (d .list))
-  unfolding refusalOfDraw
-  draw-passed h = draw-served (s .degree) (d .limit) (d .cdt) (d .polynomial) (length (d .words)) (length (d .y)) (length (d .list)) h
+-- ** What is known of a call that is served
 
-  pub draw-entries-few : length (drawEntries (s .degree) (bitsOfDraw s d)) ≤ drawListLength (d .limit)
-  unfolding bitsOfDraw
-  draw-entries-few = draw-entries-at-most _ (d .cdt) (d .words) (s .degree) (d .limit) (2 * s .degree)
+abbrev pub DrawPassed : (s : Session) (d : Draw) → Type 0
+DrawPassed s d = DrawServed (s .degree) (d .limit) (d .cdt) (d .polynomial) (length (d .words)) (length (d .y)) (length (d .list))
 
-  pub draw-entries-fit : refusalOfDraw s d ≡ 0 → length (drawEntries (s .degree) (bitsOfDraw s d)) ≤ length (d .list)
-  draw-entries-fit h = le-trans draw-entries-few (draw-passed h .list-enough)
+pub draw-passed : (s : Session) (d : Draw) → drawLeft s d .drawn .answer .refusal ≡ 0 → DrawPassed s d
+unfolding refusalOfDraw
+draw-passed s d h = draw-served _ _ _ _ _ _ _ (sym (draw-left s d .number-is) ∙ h)
 
-  pub served-draw-entries : refusalOfDraw s d ≡ 0 → entriesIn (leftBy s (draw d)) ≡ drawEntries (s .degree) (bitsOfDraw s d)
-  unfolding leftBy drawServed sampledBy
-  served-draw-entries h = rw (served-draw-leaves h) (filled-written (d .list) (drawEntries (s .degree) (bitsOfDraw s d)) (draw-entries-fit h))
+abbrev pub RespondPassed : (s : Session) (r : Respond) → Type 0
+RespondPassed s r =
+    RespondServed (s .degree) (s .drawn) (r .challenge) (r .polynomial) (length (r .words)) (r .key) (r .y) (length (r .z))
+    (length (r .list))
 
-  refused-draw-entries : (refusalOfDraw s d ≡ 0 → ⊥) → entriesIn (leftBy s (draw d)) ≡ []
-  unfolding leftBy drawRefused
-  refused-draw-entries h = rw (refused-draw-leaves h) (filled-written (d .list) [] (omega arith))
+pub respond-passed : (s : Session) (r : Respond) → respondLeft s r .responded .answer .refusal ≡ 0 → RespondPassed s r
+unfolding refusalOfRespond
+respond-passed s r h = respond-served _ _ _ _ _ _ _ _ _ (sym (respond-left s r .number-is) ∙ h)
 
--- ** A respond
+-- ** What a call writes into its list
 
-module _ (s : Session) (r : Respond) where
-  pub served-respond-leaves : refusalOfRespond s r ≡ 0 → respondLeft s r ≡ respondServed s (respondedBy (s .degree) (bitOfRespond s r) (r .challenge) (zOfRespond s r) (r .list))
-  unfolding respondLeft
-  served-respond-leaves h = rw (eq-eqb (refusalOfRespond s r) 0 h)
+-- the entries that it writes: its event's where it is served, else none
+unfoldable pub written : Session → Call → List ℕ
+written s c = cond (eqb (refusalIn (leftBy s c)) 0) (renderEvent (eventOf s c)) []
 
-  pub refused-respond-leaves : (refusalOfRespond s r ≡ 0 → ⊥) → respondLeft s r ≡ respondRefused (refusalOfRespond s r) s r
-  unfolding respondLeft
-  refused-respond-leaves h = rw (ne-eqb (refusalOfRespond s r) 0 h)
+-- they stand at the start of the list after the call, as many as are counted, and behind them it is as it was lent
+pub record Wrote (entries lent left : List ℕ) (count : ℕ) : Type 0 where
+  pub fits : count ≤ length lent
+  pub filled : filledPart left count ≡ take count left
+  pub taken : take count left ≡ entries
+  pub rest : drop count left ≡ drop count lent
 
-  pub respond-refusal : refusalIn (leftBy s (respond r)) ≡ refusalOfRespond s r
-  unfolding leftBy respondServed respondRefused
-  respond-refusal = by-refusal (refusalOfRespond s r) (λ h. rw (served-respond-leaves h) (sym h)) (λ h. rw (refused-respond-leaves h))
+wrote : (entries lent : List ℕ) → length entries ≤ length lent → Wrote entries lent (sets lent 0 entries) (length entries)
+wrote entries lent h = record {
+  fits = h;
+  filled = filled-up-to (sets lent 0 entries) (length entries) .up-to (rw length-sets h);
+  taken = take-written lent entries h;
+  rest = rest-unwritten lent entries h;
+}
 
-  -- what is known of a respond that is served
-  pub respond-passed : refusalOfRespond s r ≡ 0
-      → RespondServed (s .degree) (s .drawn) (r .challenge) (r .polynomial) (length (r .words)) (r .key) (r .y) (length (r .z)) (length (r .list))
-  unfolding refusalOfRespond
-  respond-passed h = respond-served (s .degree) (s .drawn) (r .challenge) (r .polynomial) (length (r .words)) (r .key) (r .y) (length (r .z)) (length (r .list)) h
+pub draw-entries-few : (s : Session) (d : Draw) → length (drawEntries (s .degree) (bitsOfDraw s d)) ≤ drawListLength (d .limit)
+unfolding bitsOfDraw
+draw-entries-few s d = draw-entries-at-most _ (d .cdt) (d .words) (s .degree) (d .limit) (2 * s .degree)
 
-  pub respond-entries-fit : refusalOfRespond s r ≡ 0 → length (respondEntries (s .degree) (bitOfRespond s r) (r .challenge)) ≤ length (r .list)
-  respond-entries-fit h = rw (length-respondEntries (s .degree) (bitOfRespond s r) (r .challenge)) (respond-passed h .list-enough)
+pub draw-fits : (s : Session) (d : Draw) → drawLeft s d .drawn .answer .refusal ≡ 0 → length (drawEntries (s .degree) (bitsOfDraw s d)) ≤ length (d .list)
+draw-fits s d h = le-trans (draw-entries-few s d) (draw-passed s d h .list-enough)
 
-  pub served-respond-entries : refusalOfRespond s r ≡ 0 → entriesIn (leftBy s (respond r)) ≡ respondEntries (s .degree) (bitOfRespond s r) (r .challenge)
-  unfolding leftBy respondServed respondedBy
-  served-respond-entries h = rw (served-respond-leaves h) (filled-written (r .list) (respondEntries (s .degree) (bitOfRespond s r) (r .challenge)) (respond-entries-fit h))
+pub draw-wrote : (s : Session) (d : Draw) → let left = drawLeft s d in
+    Wrote (written s (draw d)) (d .list) (left .list) (left .drawn .answer .entries)
+unfolding written leftBy eventOf renderEvent drawServed drawRefused sampledBy
+draw-wrote s d =
+    by-refusal (drawLeft s d .drawn .answer .refusal)
+    (λ h. rw (draw-left s d .where-served h) (wrote _ (d .list) (draw-fits s d h)))
+    (λ h. rw (ne-eqb _ 0 h, draw-left s d .where-refused h) (wrote [] (d .list) (omega arith)))
 
-  refused-respond-entries : (refusalOfRespond s r ≡ 0 → ⊥) → entriesIn (leftBy s (respond r)) ≡ []
-  unfolding leftBy respondRefused
-  refused-respond-entries h = rw (refused-respond-leaves h) (filled-written (r .list) [] (omega arith))
+pub respond-fits : (s : Session) (r : Respond) → respondLeft s r .responded .answer .refusal ≡ 0
+    → length (respondEntries (s .degree) (bitOfRespond s r) (r .challenge)) ≤ length (r .list)
+respond-fits s r h = rw (length-respondEntries (s .degree) (bitOfRespond s r) (r .challenge)) (respond-passed s r h .list-enough)
 
--- ** Any call
+pub respond-wrote : (s : Session) (r : Respond) → let left = respondLeft s r in
+    Wrote (written s (respond r)) (r .list) (left .list) (left .responded .answer .entries)
+unfolding written leftBy eventOf renderEvent respondServed respondRefused respondedBy
+respond-wrote s r =
+    by-refusal (respondLeft s r .responded .answer .refusal)
+    (λ h. rw (respond-left s r .where-served h) (wrote _ (r .list) (respond-fits s r h)))
+    (λ h. rw (ne-eqb _ 0 h, respond-left s r .where-refused h) (wrote [] (r .list) (omega arith)))
+
+-- a call wrote what it lists
+written-in : (s : Session) (c : Call) → entriesIn (leftBy s c) ≡ written s c
+unfolding leftBy
+written-in s (draw d) = draw-wrote s d .filled ∙ draw-wrote s d .taken
+written-in s (respond r) = respond-wrote s r .filled ∙ respond-wrote s r .taken
 
 -- a call that is served wrote its event as entries
 pub served-entries : (s : Session) (c : Call) → refusalIn (leftBy s c) ≡ 0 → entriesIn (leftBy s c) ≡ renderEvent (eventOf s c)
-unfolding eventOf renderEvent
-served-entries s (draw d) h = served-draw-entries s d (sym (draw-refusal s d) ∙ h)
-served-entries s (respond r) h = served-respond-entries s r (sym (respond-refusal s r) ∙ h)
+unfolding written
+served-entries s c h = written-in s c ∙ rw (eq-eqb _ 0 h)
 
 -- a call that is refused wrote none
 pub refused-entries : (s : Session) (c : Call) → (refusalIn (leftBy s c) ≡ 0 → ⊥) → entriesIn (leftBy s c) ≡ []
-refused-entries s (draw d) h = refused-draw-entries s d (λ e. h (draw-refusal s d ∙ e))
-refused-entries s (respond r) h = refused-respond-entries s r (λ e. h (respond-refusal s r ∙ e))
+unfolding written
+refused-entries s c h = written-in s c ∙ rw (ne-eqb _ 0 h)

@@ -5,10 +5,12 @@ use mathlib.Core.List.{List, [], _∷_, _++_}
 use Prim.Native.Nat.{ℕ}
 use lib.Dec.{eqb}
 use lib.IntN.{ℤ}
+use Rattle.read_list.specs.Agreement.{Agree}
 use Rattle.session.specs.declared.Session.{Session}
 use Rattle.session.specs.Calls.{opened}
-use Rattle.session.specs.Histories.{Call, leftBy, refusalIn, nextIn, yIn, Linked, readList}
-use Rattle.session.specs.Demand3.{NoneRefused, AllAlike, Agreeing, seen, Demand3}
+use Rattle.session.specs.Histories.{Call, leftBy, refusalIn, nextIn, yIn, Linked, readList, renderEvent}
+use Rattle.session.specs.Demand3.{NoneRefused, AllAlike, lent, Agreeing, seen, Demand3}
+use Rattle.session.proofs.Calls.{served-entries}
 use Rattle.session.proofs.Rendering.{reads-tell}
 use Rattle.session.proofs.SameCalls.{same-calls}
 
@@ -27,13 +29,15 @@ same-lists s y y′ [] [] ys l l′ h h′ alike same = (refl, refl)
 same-lists s y y′ [] (c′ ∷ calls′) ys l l′ h h′ alike same = absurd alike
 same-lists s y y′ (c ∷ calls) [] ys l l′ h h′ alike same = absurd alike
 same-lists s y y′ (c ∷ calls) (c′ ∷ calls′) ys l l′ h h′ alike same =
-    let here = same-calls s c c′ (h .0) (h′ .0) (alike .0) (λ drawn. l .0 (h .0) ∙ ys drawn ∙ sym (l′ .0 (h′ .0))) (same .0) in
+    let agree = subst (Agree (lent c) (lent c′)) (served-entries s c (h .0)) (same .0) in
+    let here = same-calls s c c′ (h .0) (h′ .0) (alike .0) (λ drawn. l .0 (h .0) ∙ ys drawn ∙ sym (l′ .0 (h′ .0))) agree in
+    let entries = served-entries s c (h .0) ∙ ap renderEvent (here .event-same) ∙ sym (served-entries s c′ (h′ .0)) in
     let back = sym (here .next-same) in
     let later = same-lists (nextIn (leftBy s c)) (yIn (leftBy s c)) (yIn (leftBy s c′)) calls calls′ (λ drawn. here .y-same)
     (linked-on s y c calls (h .0) l) (subst (λ (x : Session). Linked x (yIn (leftBy s c′)) calls′) back (linked-on s y′ c′ calls′ (h′ .0) l′))
     (h .1) (subst (λ (x : Session). NoneRefused x calls′) back (h′ .1)) (alike .1) (same .1) in (
       ap₂ _∷_ (here .seen-same) (later .0 ∙ ap (λ (x : Session). seen x calls′) (here .next-same)),
-      ap₂ _++_ (here .entries-same) (later .1 ∙ ap (λ (x : Session). readList x calls′) (here .next-same)),
+      ap₂ _++_ entries (later .1 ∙ ap (λ (x : Session). readList x calls′) (here .next-same)),
     )
 
 -- ** From an opening

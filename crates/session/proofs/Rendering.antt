@@ -18,7 +18,7 @@ use Rattle.response.proofs.RespondTells.{respond-tells}
 use Rattle.session.specs.declared.Session.{Session}
 use Rattle.session.specs.Calls.{bitsOfDraw}
 use Rattle.session.specs.Histories.{Call, draw, respond, leftBy, refusalIn, nextIn, entriesIn, readList, Event, drew, answered, eventOf, history, renderEvent, render}
-use Rattle.session.proofs.Calls.{by-refusal, draw-refusal, draw-passed, draw-entries-few, respond-refusal, respond-passed, served-entries, refused-entries}
+use Rattle.session.proofs.Calls.{by-refusal, draw-passed, draw-entries-few, respond-passed, served-entries, refused-entries}
 
 -- ** Events that occur
 
@@ -32,12 +32,12 @@ AllOccur [] = Unit {0}
 AllOccur (e ∷ events) = Occurs e × AllOccur events
 
 pub event-occurs : (s : Session) (c : Call) → refusalIn (leftBy s c) ≡ 0 → Occurs (eventOf s c)
-unfolding eventOf
+unfolding leftBy eventOf
 event-occurs s (draw d) h =
-    let passed = draw-passed s d (sym (draw-refusal s d) ∙ h) in
+    let passed = draw-passed s d h in
     (passed .degree, omega (arith, draw-entries-few s d, length-drawEntries (s .degree) (bitsOfDraw s d), passed .limit-high))
 event-occurs s (respond r) h =
-    let passed = respond-passed s r (sym (respond-refusal s r) ∙ h) in
+    let passed = respond-passed s r h in
     (passed .degree, passed .positions .below)
 
 pub history-occurs : (s : Session) (calls : List Call) → AllOccur (history s calls)

@@ -44,7 +44,9 @@ pub record DrawUntouched (s : Session) (d : Draw) (left : DrawLeft) : Type 0 whe
 
 -- so a refused draw leaves it
 abbrev pub RefusedDrawTouchesNothing : Type 0
-RefusedDrawTouchesNothing = (s : Session) (d : Draw) → let left = drawLeft s d in (left .drawn .answer .refusal ≡ 0 → ⊥) → DrawUntouched s d left
+RefusedDrawTouchesNothing =
+    (s : Session) (d : Draw) → let left = drawLeft s d in
+    (left .drawn .answer .refusal ≡ 0 → ⊥) → DrawUntouched s d left
 
 -- served, y is drawn exactly where it is full, and all zero where it is spent
 pub record DrawnIfFull (s : Session) (left : DrawLeft) : Type 0 where
@@ -52,7 +54,9 @@ pub record DrawnIfFull (s : Session) (left : DrawLeft) : Type 0 where
   pub spent : left .drawn .session .drawn ≡ false → left .y ≡ replicate (2 * s .degree) (pos 0)
 
 abbrev pub ServedDrawSetsDrawn : Type 0
-ServedDrawSetsDrawn = (s : Session) (d : Draw) → let left = drawLeft s d in left .drawn .answer .refusal ≡ 0 → DrawnIfFull s left
+ServedDrawSetsDrawn =
+    (s : Session) (d : Draw) → let left = drawLeft s d in
+    left .drawn .answer .refusal ≡ 0 → DrawnIfFull s left
 
 -- ** A respond
 
@@ -79,7 +83,9 @@ pub record RespondUntouched (s : Session) (r : Respond) (left : RespondLeft) : T
 
 -- so a refused respond leaves it
 abbrev pub RefusedRespondTouchesNothing : Type 0
-RefusedRespondTouchesNothing = (s : Session) (r : Respond) → let left = respondLeft s r in (left .responded .answer .refusal ≡ 0 → ⊥) → RespondUntouched s r left
+RefusedRespondTouchesNothing =
+    (s : Session) (r : Respond) → let left = respondLeft s r in
+    (left .responded .answer .refusal ≡ 0 → ⊥) → RespondUntouched s r left
 
 -- served, nothing is drawn any more, y is all zero, and so is z where the bit is 0
 pub record NoiseSpent (s : Session) (left : RespondLeft) : Type 0 where
@@ -88,4 +94,6 @@ pub record NoiseSpent (s : Session) (left : RespondLeft) : Type 0 where
   pub z : left .responded .answer .bit ≡ false → left .z ≡ replicate (2 * s .degree) (pos 0)
 
 abbrev pub ServedRespondSpendsNoise : Type 0
-ServedRespondSpendsNoise = (s : Session) (r : Respond) → let left = respondLeft s r in left .responded .answer .refusal ≡ 0 → NoiseSpent s left
+ServedRespondSpendsNoise =
+    (s : Session) (r : Respond) → let left = respondLeft s r in
+    left .responded .answer .refusal ≡ 0 → NoiseSpent s left

@@ -34,11 +34,19 @@ pub record Draw : Type 0 where
   pub y : List ℤ
   pub list : List ℕ
 
+-- the draw with a limit and with what is lent, in the order of the code
+abbrev pub drawOf : (limit : ℕ) (cdt polynomial words : List ℕ) (y : List ℤ) (list : List ℕ) → Draw
+drawOf limit cdt polynomial words y list = record { limit = limit; cdt = cdt; polynomial = polynomial; words = words; y = y; list = list }
+
 -- what a draw leaves: the answer with the next session, y and the list
 pub record DrawLeft : Type 0 where
   pub drawn : Drawn
   pub y : List ℤ
   pub list : List ℕ
+
+-- what is left where a draw hands back a result, with y and the list after it
+abbrev pub afterDraw : (drawn : Drawn) (y : List ℤ) (list : List ℕ) → DrawLeft
+afterDraw drawn y list = record { drawn = drawn; y = y; list = list }
 
 -- the first refusal that applies, or 0
 unfoldable pub refusalOfDraw : (s : Session) (d : Draw) → ℕ
@@ -86,6 +94,18 @@ pub record Respond : Type 0 where
   pub z : List ℤ
   pub list : List ℕ
 
+-- the respond to a challenge with what is lent, in the order of the code
+abbrev pub respondOf : (challenge polynomial words : List ℕ) (key y z : List ℤ) (list : List ℕ) → Respond
+respondOf challenge polynomial words key y z list = record {
+  challenge = challenge;
+  polynomial = polynomial;
+  words = words;
+  key = key;
+  y = y;
+  z = z;
+  list = list;
+}
+
 -- what a respond leaves: the answer with the next session, y, z and the list
 pub record RespondLeft : Type 0 where
   pub responded : Responded
@@ -93,9 +113,15 @@ pub record RespondLeft : Type 0 where
   pub z : List ℤ
   pub list : List ℕ
 
+-- what is left where a respond hands back a result, with y, z and the list after it
+abbrev pub afterRespond : (responded : Responded) (y z : List ℤ) (list : List ℕ) → RespondLeft
+afterRespond responded y z list = record { responded = responded; y = y; z = z; list = list }
+
 -- the first refusal that applies, or 0
 unfoldable pub refusalOfRespond : (s : Session) (r : Respond) → ℕ
-refusalOfRespond s r = respondRefusal (s .degree) (s .drawn) (r .challenge) (r .polynomial) (length (r .words)) (r .key) (r .y) (length (r .z)) (length (r .list))
+refusalOfRespond s r =
+    respondRefusal (s .degree) (s .drawn) (r .challenge) (r .polynomial) (length (r .words)) (r .key) (r .y) (length (r .z))
+    (length (r .list))
 
 -- its bit, by e(N) over the lent polynomial table, at deviation 215
 unfoldable pub bitOfRespond : (s : Session) (r : Respond) → Bool
@@ -122,7 +148,12 @@ respondRefused refusal s r = record { responded = respondedRefused refusal s; y 
 
 -- what a served respond leaves: y, z and the list are those of the response
 unfoldable pub respondServed : (s : Session) (response : Response) → RespondLeft
-respondServed s response = record { responded = respondedServed s (response .answer); y = response .y; z = response .z; list = response .list }
+respondServed s response = record {
+  responded = respondedServed s (response .answer);
+  y = response .y;
+  z = response .z;
+  list = response .list;
+}
 
 -- a respond
 unfoldable pub respondLeft : (s : Session) (r : Respond) → RespondLeft

@@ -9,7 +9,8 @@ use Rattle.session.specs.declared.Session.{Session}
 use Rattle.session.specs.declared.Drawn.{Drawn}
 use Rattle.session.specs.declared.Responded.{Responded}
 use Rattle.session.specs.Calls.{opened}
-use Rattle.session.specs.Histories.{Call, draw, respond, Left, drawn, responded, leftBy, refusalIn, nextIn, entriesIn, Linked, readList, history}
+use Rattle.session.specs.Histories.{Call, draw, respond, Left, drawn, responded, leftBy, refusalIn, nextIn, entriesIn}
+use Rattle.session.specs.Histories.{Linked, readList, history}
 
 -- ** What the second half asks of two lists of calls
 
@@ -41,7 +42,8 @@ lent (respond r) = record { words = r .words; cdt = []; polynomial = r .polynomi
 unfoldable pub Agreeing : (s : Session) (calls calls′ : List Call) → Type 0
 Agreeing s [] calls′ = Unit {0}
 Agreeing s (a ∷ calls) [] = Unit {0}
-Agreeing s (a ∷ calls) (b ∷ calls′) = Agree (lent a) (lent b) (entriesIn (leftBy s a)) × Agreeing (nextIn (leftBy s a)) calls calls′
+Agreeing s (a ∷ calls) (b ∷ calls′) =
+    Agree (lent a) (lent b) (entriesIn (leftBy s a)) × Agreeing (nextIn (leftBy s a)) calls calls′
 
 -- ** What the caller sees of a call
 
@@ -69,5 +71,6 @@ Demand3 =
     (n n′ : ℕ) (y y′ : List ℤ) (calls calls′ : List Call) → let s = opened n .session in let s′ = opened n′ .session in
     Linked s y calls → Linked s′ y′ calls′ →
     ((readList s calls ≡ readList s′ calls′) ↔ (history s calls ≡ history s′ calls′))
-    × (s .degree ≡ s′ .degree → NoneRefused s calls → NoneRefused s′ calls′ → AllAlike calls calls′ → Agreeing s calls calls′ →
+    × (s .degree ≡ s′ .degree → NoneRefused s calls → NoneRefused s′ calls′ →
+    AllAlike calls calls′ → Agreeing s calls calls′ →
     (seen s calls ≡ seen s′ calls′) × (readList s calls ≡ readList s′ calls′))

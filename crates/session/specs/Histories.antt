@@ -56,7 +56,9 @@ lentY (respond r) = r .y
 -- the calls that are not refused are lent one and the same y, as the calls before left it; a refused call may be lent any y
 unfoldable pub Linked : (s : Session) (y : List ℤ) (calls : List Call) → Type 0
 Linked s y [] = Unit {0}
-Linked s y (c ∷ calls) = (refusalIn (leftBy s c) ≡ 0 → lentY c ≡ y) × Linked (nextIn (leftBy s c)) (cond (eqb (refusalIn (leftBy s c)) 0) (yIn (leftBy s c)) y) calls
+Linked s y (c ∷ calls) =
+    (refusalIn (leftBy s c) ≡ 0 → lentY c ≡ y)
+    × Linked (nextIn (leftBy s c)) (cond (eqb (refusalIn (leftBy s c)) 0) (yIn (leftBy s c)) y) calls
 
 -- the read list: the entries of each call, in order
 unfoldable pub readList : (s : Session) (calls : List Call) → List ℕ
@@ -77,7 +79,10 @@ eventOf s (respond r) = answered (s .degree) (bitOfRespond s r) (r .challenge)
 -- the history: an event for each call that is not refused, in order
 unfoldable pub history : (s : Session) (calls : List Call) → List Event
 history s [] = []
-history s (c ∷ calls) = cond (eqb (refusalIn (leftBy s c)) 0) (eventOf s c ∷ history (nextIn (leftBy s c)) calls) (history (nextIn (leftBy s c)) calls)
+history s (c ∷ calls) =
+    cond (eqb (refusalIn (leftBy s c)) 0)
+    (eventOf s c ∷ history (nextIn (leftBy s c)) calls)
+    (history (nextIn (leftBy s c)) calls)
 
 -- ** Histories as read lists
 

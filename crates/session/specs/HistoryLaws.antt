@@ -8,7 +8,7 @@ use lib.Dec.{eqb}
 use lib.IntN.{ℤ}
 use lib.ListN.{take}
 use Rattle.session.specs.declared.Session.{Session}
-use Rattle.session.specs.Calls.{Draw, DrawLeft, bitsOfDraw, drawLeft, Respond, RespondLeft, respondLeft}
+use Rattle.session.specs.Calls.{Draw, drawOf, DrawLeft, bitsOfDraw, drawLeft, Respond, respondOf, RespondLeft, respondLeft}
 use Rattle.session.specs.Histories.{Call, draw, respond, leftBy, refusalIn, nextIn, yIn, Linked, readList, drew, answered, history}
 use Rattle.session.specs.Demand3.{sampled, answer, seen}
 
@@ -16,16 +16,8 @@ use Rattle.session.specs.Demand3.{sampled, answer, seen}
 
 -- a call that is lent another y
 abbrev pub lending : (y : List ℤ) → Call → Call
-lending y (draw d) = draw (record { limit = d .limit; cdt = d .cdt; polynomial = d .polynomial; words = d .words; y = y; list = d .list })
-lending y (respond r) = respond (record {
-  challenge = r .challenge;
-  polynomial = r .polynomial;
-  words = r .words;
-  key = r .key;
-  y = y;
-  z = r .z;
-  list = r .list;
-})
+lending y (draw d) = draw (drawOf (d .limit) (d .cdt) (d .polynomial) (d .words) y (d .list))
+lending y (respond r) = respond (respondOf (r .challenge) (r .polynomial) (r .words) (r .key) y (r .z) (r .list))
 
 -- calls that are each lent y as the calls before left it
 unfoldable pub threaded : (s : Session) (y : List ℤ) (calls : List Call) → List Call

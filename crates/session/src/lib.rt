@@ -1,7 +1,8 @@
 // Sessions: a degree, and whether y is drawn. Each call takes the session by value, and hands back the next one with its answer.
 ghost use mathlib.Core.Path.{_≡_};
 ghost use Prim.Native.Nat.{_≤_};
-ghost use Rattle.session.specs.Calls.{opened, drawnRefused, drawnServed, drawLeft, respondedRefused, respondedServed, respondLeft};
+ghost use Rattle.session.specs.Calls.{opened, drawOf, afterDraw, drawnRefused, drawnServed, drawLeft};
+ghost use Rattle.session.specs.Calls.{respondOf, afterRespond, respondedRefused, respondedServed, respondLeft};
 use response::Answer;
 use sampler::Counts;
 
@@ -83,7 +84,10 @@ impl Session {
         y: &mut [i32],
         list: &mut [u32],
     ) -> Drawn
-        ensures { λ r. ⌜ record { drawn = r; y = now (y .exit); list = now (list .exit) } ≡ drawLeft self (record { limit = limit; cdt = now (cdt .entry); polynomial = now (polynomial .entry); words = now (words .entry); y = now (y .entry); list = now (list .entry) }) ⌝ }
+        ensures { λ r. ⌜
+            afterDraw r (now (y .exit)) (now (list .exit))
+            ≡ drawLeft self (drawOf limit (now (cdt .entry)) (now (polynomial .entry)) (now (words .entry))
+            (now (y .entry)) (now (list .entry))) ⌝ }
     {
         let n = self.degree;
         let refusal = refusals::draw_refusal(
@@ -123,7 +127,10 @@ impl Session {
         z: &mut [i32],
         list: &mut [u32],
     ) -> Responded
-        ensures { λ r. ⌜ record { responded = r; y = now (y .exit); z = now (z .exit); list = now (list .exit) } ≡ respondLeft self (record { challenge = now (challenge .entry); polynomial = now (polynomial .entry); words = now (words .entry); key = now (key .entry); y = now (y .entry); z = now (z .entry); list = now (list .entry) }) ⌝ }
+        ensures { λ r. ⌜
+            afterRespond r (now (y .exit)) (now (z .exit)) (now (list .exit))
+            ≡ respondLeft self (respondOf (now (challenge .entry)) (now (polynomial .entry)) (now (words .entry))
+            (now (key .entry)) (now (y .entry)) (now (z .entry)) (now (list .entry))) ⌝ }
     {
         let n = self.degree;
         let refusal = refusals::respond_refusal(

@@ -1,33 +1,44 @@
 -- `session::Session::draw` meets its contract, refused or served. Assumes nothing.
 use borrow.Author.Needs.{needs}
-use mathlib.Core.Path.{_≡_, sym, ap, _∙_}
+use borrow.Author.Tests.{eq-eqb, ne-eqb}
+use mathlib.Core.Path.{_≡_, sym, _∙_}
 use Prim.Native.Nat.{ℕ, _*_}
 use native.Mathlib.Omega.{arith}
 use lib.Dec.{lit<}
-use lib.ListN.{length}
 use Rattle.checks.proofs.Degrees.{degree-range}
 use Rattle.exponential.specs.Exponential.{expScaled}
 use Rattle.exponential.proofs.Table.{by-215}
 use Rattle.sampler.specs.Draw.{drawBits, Sampled, sampledBy}
-use Rattle.refusals.proofs.Served.{DrawServed}
 use Rattle.session.specs.declared.Session.{Session}
 use Rattle.session.specs.declared.Drawn.{Drawn}
-use Rattle.session.specs.Calls.{Draw, refusalOfDraw, bitsOfDraw, drawnRefused, drawnServed, drawRefused, drawServed, drawLeft}
-use Rattle.session.proofs.Calls.{draw-passed, served-draw-leaves, refused-draw-leaves}
+use Rattle.session.specs.Calls.{Draw, drawOf, afterDraw, refusalOfDraw, bitsOfDraw, drawnRefused, drawnServed, drawRefused, drawServed, drawLeft}
+use Rattle.session.proofs.Calls.{DrawPassed, draw-left, draw-passed}
 use Rattle.session.proofs.Session.draw.Statement.{statement}
 use Rattle.session.proofs.Session.draw.Tie as tie
 
--- the call, as the definitions have it
-abbrev call : tie.Start → Draw
-call c = let a = c .args in record { limit = a .limit; cdt = a .cdt .now; polynomial = a .polynomial .now; words = a .words .now; y = a .y .now; list = a .list .now }
-
-draw-refusal-requires : tie.Need-draw-refusal-requires
-draw-refusal-requires c κs = search needs
+-- ** The states, from one to an earlier one
 
 abbrev start : tie.After-draw-refusal → tie.Start
 start c = c .before .before .before .before .before
 
-refusal-is : (c : tie.After-draw-refusal) → c .draw-refusal .result ≡ refusalOfDraw (start c .args .self) (call (start c))
+abbrev not-refused : tie.After-draw-arg2 → tie.Else1
+not-refused c = c .before .before
+
+abbrev sampled : tie.After-slice-known2 → tie.After-draw
+sampled c = c .before .before .before
+
+-- ** The call, as the definitions have it
+
+abbrev session : tie.After-draw-refusal → Session
+session c = start c .args .self
+
+abbrev call : tie.After-draw-refusal → Draw
+call c = let a = start c .args in drawOf (a .limit) (a .cdt .now) (a .polynomial .now) (a .words .now) (a .y .now) (a .list .now)
+
+draw-refusal-requires : tie.Need-draw-refusal-requires
+draw-refusal-requires c κs = search needs
+
+refusal-is : (c : tie.After-draw-refusal) → c .draw-refusal .result ≡ refusalOfDraw (session c) (call c)
 unfolding refusalOfDraw
 refusal-is c = c .draw-refusal .ensures
 
@@ -36,31 +47,31 @@ refusal-is c = c .draw-refusal .ensures
 drawn-refused-requires : tie.Need-drawn-refused-requires
 drawn-refused-requires c κs = search needs
 
-refused : (s : Session) (d : Draw) (refusal : ℕ) (drawn : Drawn) → refusal ≡ refusalOfDraw s d → (refusal ≡ 0 → ⊥) → drawn ≡ drawnRefused refusal s
-    → record { drawn = drawn; y = d .y; list = d .list } ≡ drawLeft s d
-unfolding drawRefused
-refused s d refusal drawn e h made =
-    ap (λ (x : Drawn). record { drawn = x; y = d .y; list = d .list }) (made ∙ ap (λ (k : ℕ). drawnRefused k s) e)
-    ∙ sym (refused-draw-leaves s d (λ z. h (e ∙ z)))
+refused-leaves : (s : Session) (d : Draw) (refusal : ℕ) (drawn : Drawn) → refusal ≡ refusalOfDraw s d → (refusal ≡ 0 → ⊥)
+    → drawn ≡ drawnRefused refusal s → afterDraw drawn (d .y) (d .list) ≡ drawLeft s d
+unfolding drawLeft drawRefused
+refused-leaves s d refusal drawn e h made = rw (made, ← e, ne-eqb refusal 0 h)
 
 returns : tie.Need-returns
 returns c =
     let r = c .before .before in
-    refused (start r .args .self) (call (start r)) _ _ (refusal-is r) (c .before .if1 .taken) (c .drawn-refused .ensures)
+    refused-leaves (session r) (call r) _ _ (refusal-is r) (c .before .if1 .taken) (c .drawn-refused .ensures)
 
 -- ** Served
 
-served : (c : tie.Else1) → refusalOfDraw (start (c .before) .args .self) (call (start (c .before))) ≡ 0
+served : (c : tie.Else1) → refusalOfDraw (session (c .before)) (call (c .before)) ≡ 0
 served c = sym (refusal-is (c .before)) ∙ c .if1 .left
 
-passed : (c : tie.Else1) → let a = start (c .before) .args in DrawServed (a .self .degree) (a .limit) (a .cdt .now) (a .polynomial .now) (length (a .words .now)) (length (a .y .now)) (length (a .list .now))
-passed c = draw-passed (start (c .before) .args .self) (call (start (c .before))) (served c)
+passed : (c : tie.Else1) → DrawPassed (session (c .before)) (call (c .before))
+passed c = draw-passed (session (c .before)) (call (c .before)) (draw-left (session (c .before)) (call (c .before)) .number-is ∙ served c)
 
 draw-requires : tie.Need-draw-requires
 draw-requires c κs =
-    let k = passed (c .before .before) in
-    let n = degree-range _ (k .degree) .1 in
-    (record { twenty = k .twenty; small = k .small; is-polynomial = k .is-polynomial; scales = lit< tt }, (omega (arith, n), omega (arith, n, k .limit-high), k .words-enough, k .both, k .list-enough))
+    let k = passed (not-refused c) in
+    let n = degree-range _ (k .degree) .1 in (
+      record { twenty = k .twenty; small = k .small; is-polynomial = k .is-polynomial; scales = lit< tt },
+      (omega (arith, n), omega (arith, n, k .limit-high), k .words-enough, k .both, k .list-enough),
+    )
 
 same-length : tie.Need-same-length
 same-length c = search needs
@@ -69,22 +80,20 @@ same-length-2 : tie.Need-same-length-2
 same-length-2 c = search needs
 
 drawn-served-requires : tie.Need-drawn-served-requires
-drawn-served-requires c κs = degree-range _ (passed (c .before .before .before .before .before .before) .degree) .1
+drawn-served-requires c κs = degree-range _ (passed (not-refused (sampled c .before)) .degree) .1
 
 sampled-leaves : (s : Session) (d : Draw) (sampled : Sampled) (drawn : Drawn) → refusalOfDraw s d ≡ 0 → drawn ≡ drawnServed s (sampled .counts)
-    → sampled ≡ sampledBy (s .degree) (d .cdt) (d .words) (drawBits (expScaled (d .polynomial) 3269134179596076729) (d .cdt) (d .words) (d .limit) (2 * s .degree)) (d .list)
-    → record { drawn = drawn; y = sampled .y; list = sampled .list } ≡ drawLeft s d
-unfolding bitsOfDraw drawServed
-sampled-leaves s d sampled drawn h made e =
-    ap (λ (x : Drawn). record { drawn = x; y = sampled .y; list = sampled .list }) made
-    ∙ ap (drawServed s) (e ∙ ap (λ (f : ℕ → ℕ). sampledBy (s .degree) (d .cdt) (d .words) (drawBits f (d .cdt) (d .words) (d .limit) (2 * s .degree)) (d .list)) (by-215 (d .polynomial)))
-    ∙ sym (served-draw-leaves s d h)
+    → sampled ≡ sampledBy (s .degree) (d .cdt) (d .words)
+    (drawBits (expScaled (d .polynomial) 3269134179596076729) (d .cdt) (d .words) (d .limit) (2 * s .degree)) (d .list)
+    → afterDraw drawn (sampled .y) (sampled .list) ≡ drawLeft s d
+unfolding drawLeft drawServed bitsOfDraw
+sampled-leaves s d sampled drawn h made e = rw (made, e, by-215 (d .polynomial), eq-eqb (refusalOfDraw s d) 0 h)
 
 returns-2 : tie.Need-returns-2
 returns-2 c =
-    let d = c .before .before .before .before in
-    let other = d .before .before .before in
-    sampled-leaves (start (other .before) .args .self) (call (start (other .before))) _ _ (served other) (c .drawn-served .ensures) (d .draw .ensures)
+    let d = sampled (c .before) in
+    let other = not-refused (d .before) in
+    sampled-leaves (session (other .before)) (call (other .before)) _ _ (served other) (c .drawn-served .ensures) (d .draw .ensures)
 
 pub draw-spec : {M : Type 1} → statement M
 draw-spec = tie.close (tie.spec draw-refusal-requires drawn-refused-requires returns draw-requires drawn-served-requires same-length same-length-2 returns-2)
