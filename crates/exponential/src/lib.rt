@@ -13,8 +13,8 @@ pub const RECIPROCAL_215: u64 = 3269134179596076729;
 // The largest N.
 pub const LIMIT: u64 = 5534960;
 
-// 2^63 + 12.
-const REFUSAL_12: u64 = 0x8000_0000_0000_000c;
+// What the exponential by n alone gives where n is refused: 2^63 + 12, which is no value of e.
+const REFUSED: u64 = 2 * arithmetic::TWO_62 + refused::EXPONENT as u64;
 
 // The words of the polynomial table.
 pub const POLYNOMIAL_WORDS: usize = 21;
@@ -149,7 +149,7 @@ pub fn exp_or_refusal(n: u64) -> u64
     ensures { λ r. ⌜ r ≡ expOrRefusal n ⌝ }
 {
     if LIMIT < n {
-        return REFUSAL_12;
+        return REFUSED;
     }
     let table = POLYNOMIAL;
     let v = arithmetic::mul_shift22(n, RECIPROCAL_215);

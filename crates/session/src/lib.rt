@@ -65,7 +65,7 @@ impl Session {
             };
         }
         Opened {
-            refusal: 1,
+            refusal: refused::DEGREE,
             session: Session {
                 degree: 0,
                 drawn: false,
