@@ -16,7 +16,7 @@ use Rattle.response.specs.Response.{responseOf, responseZ, measuresOf, response
 use Rattle.refusals.specs.Refusals.{openRefusal, drawRefusal, noiseRefusal, respondRefusal}
 use Rattle.session.specs.Calls.{opened, refusalOfDraw, bitsOfDraw, drawRefused, drawServed, drawLeft}
 use Rattle.session.specs.Calls.{refusalOfRespond, bitOfRespond, zOfRespond, respondRefused, respondServed, respondLeft}
-use Rattle.session.specs.Histories.{leftBy, eventOf}
+use Rattle.histories.specs.Histories.{leftBy, eventOf}
 
 -- the polynomial table, and the CDT table of the known points
 unfoldable pub tables : Unit {0}

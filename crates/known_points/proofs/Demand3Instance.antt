@@ -14,12 +14,12 @@ use Rattle.read_list.specs.Entries.{kindOf, placeOf}
 use Rattle.checks.proofs.JoinedTests.{both-true}
 use Rattle.session.specs.declared.Session.{Session}
 use Rattle.session.specs.Calls.{Draw, drawLeft, Respond, respondLeft}
-use Rattle.session.specs.Histories.{Call, respond, Linked, history, renderEvent, render}
-use Rattle.session.specs.Demand3.{NoneRefused, seen}
-use Rattle.session.specs.PremiseLaws.{SameDraws, SameResponds}
-use Rattle.session.proofs.Rendering.{read-list-is-rendered}
-use Rattle.session.proofs.Demand3.{demand3}
-use Rattle.session.proofs.PremiseLaws.{no-calls-meet, draws-meet, responds-meet}
+use Rattle.histories.specs.Histories.{Call, respond, Linked, history, renderEvent, render}
+use Rattle.histories.specs.Demand3.{NoneRefused, seen}
+use Rattle.histories.specs.PremiseLaws.{SameDraws, SameResponds}
+use Rattle.histories.proofs.Rendering.{read-list-is-rendered}
+use Rattle.histories.proofs.Demand3.{demand3}
+use Rattle.histories.proofs.PremiseLaws.{no-calls-meet, draws-meet, responds-meet}
 use Rattle.known_points.specs.Demand3Instance.{wordsOf, oneToEight, drawOver, drawing, rejecting, responding, callsOver}
 use Rattle.known_points.specs.Demand3Instance.{calls, calls′, callsRejecting, refusedRespond, refusedDraw, callsRefused, rounds}
 use Rattle.known_points.specs.Demand3Instance.{start, drawnAndAnswered, Meet, Demand3Instance}

@@ -12,9 +12,9 @@ use Rattle.sampler.specs.Draw.{drawEntries}
 use Rattle.response.specs.Response.{respondEntries}
 use Rattle.session.specs.declared.Session.{Session}
 use Rattle.session.specs.Calls.{opened, Draw, Respond}
-use Rattle.session.specs.Histories.{Call, draw, respond, Linked, readList, Event, drew, answered, history}
-use Rattle.session.specs.Demand3.{NoneRefused, Seen, sampled, answer, seen}
-use Rattle.session.specs.PremiseLaws.{Premises}
+use Rattle.histories.specs.Histories.{Call, draw, respond, Linked, readList, Event, drew, answered, history}
+use Rattle.histories.specs.Demand3.{NoneRefused, Seen, sampled, answer, seen}
+use Rattle.histories.specs.PremiseLaws.{Premises}
 
 -- ** What is lent
 

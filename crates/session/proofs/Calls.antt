@@ -19,7 +19,6 @@ use Rattle.refusals.proofs.Served.{DrawServed, draw-served, RespondServed, resp
 use Rattle.session.specs.declared.Session.{Session}
 use Rattle.session.specs.Calls.{Draw, DrawLeft, refusalOfDraw, bitsOfDraw, drawRefused, drawServed, drawLeft}
 use Rattle.session.specs.Calls.{Respond, RespondLeft, refusalOfRespond, bitOfRespond, zOfRespond, respondRefused, respondServed, respondLeft}
-use Rattle.session.specs.Histories.{Call, draw, respond, leftBy, refusalIn, entriesIn, eventOf, renderEvent}
 
 -- ** Served or refused
 
@@ -74,9 +73,12 @@ respond-passed s r h = respond-served _ _ _ _ _ _ _ _ _ (sym (respond-left s r .
 
 -- ** What a call writes into its list
 
--- the entries that it writes: its event's where it is served, else none
-unfoldable pub written : Session → Call → List ℕ
-written s c = cond (eqb (refusalIn (leftBy s c)) 0) (renderEvent (eventOf s c)) []
+-- the entries that it writes: none where it is refused
+unfoldable pub drawWrites : Session → Draw → List ℕ
+drawWrites s d = cond (eqb (drawLeft s d .drawn .answer .refusal) 0) (drawEntries (s .degree) (bitsOfDraw s d)) []
+
+unfoldable pub respondWrites : Session → Respond → List ℕ
+respondWrites s r = cond (eqb (respondLeft s r .responded .answer .refusal) 0) (respondEntries (s .degree) (bitOfRespond s r) (r .challenge)) []
 
 -- they stand at the start of the list after the call, as many as are counted, and behind them it is as it was lent
 pub record Wrote (entries lent left : List ℕ) (count : ℕ) : Type 0 where
@@ -101,8 +103,8 @@ pub draw-fits : (s : Session) (d : Draw) → drawLeft s d .drawn .answer .refusa
 draw-fits s d h = le-trans (draw-entries-few s d) (draw-passed s d h .list-enough)
 
 pub draw-wrote : (s : Session) (d : Draw) → let left = drawLeft s d in
-    Wrote (written s (draw d)) (d .list) (left .list) (left .drawn .answer .entries)
-unfolding written leftBy eventOf renderEvent drawServed drawRefused sampledBy
+    Wrote (drawWrites s d) (d .list) (left .list) (left .drawn .answer .entries)
+unfolding drawWrites drawServed drawRefused sampledBy
 draw-wrote s d =
     by-refusal (drawLeft s d .drawn .answer .refusal)
     (λ h. rw (draw-left s d .where-served h) (wrote _ (d .list) (draw-fits s d h)))
@@ -113,25 +115,9 @@ pub respond-fits : (s : Session) (r : Respond) → respondLeft s r .responded .a
 respond-fits s r h = rw (length-respondEntries (s .degree) (bitOfRespond s r) (r .challenge)) (respond-passed s r h .list-enough)
 
 pub respond-wrote : (s : Session) (r : Respond) → let left = respondLeft s r in
-    Wrote (written s (respond r)) (r .list) (left .list) (left .responded .answer .entries)
-unfolding written leftBy eventOf renderEvent respondServed respondRefused respondedBy
+    Wrote (respondWrites s r) (r .list) (left .list) (left .responded .answer .entries)
+unfolding respondWrites respondServed respondRefused respondedBy
 respond-wrote s r =
     by-refusal (respondLeft s r .responded .answer .refusal)
     (λ h. rw (respond-left s r .where-served h) (wrote _ (r .list) (respond-fits s r h)))
     (λ h. rw (ne-eqb _ 0 h, respond-left s r .where-refused h) (wrote [] (r .list) (omega arith)))
-
--- a call wrote what it lists
-written-in : (s : Session) (c : Call) → entriesIn (leftBy s c) ≡ written s c
-unfolding leftBy
-written-in s (draw d) = draw-wrote s d .filled ∙ draw-wrote s d .taken
-written-in s (respond r) = respond-wrote s r .filled ∙ respond-wrote s r .taken
-
--- a call that is served wrote its event as entries
-pub served-entries : (s : Session) (c : Call) → refusalIn (leftBy s c) ≡ 0 → entriesIn (leftBy s c) ≡ renderEvent (eventOf s c)
-unfolding written
-served-entries s c h = written-in s c ∙ rw (eq-eqb _ 0 h)
-
--- a call that is refused wrote none
-pub refused-entries : (s : Session) (c : Call) → (refusalIn (leftBy s c) ≡ 0 → ⊥) → entriesIn (leftBy s c) ≡ []
-unfolding written
-refused-entries s c h = written-in s c ∙ rw (ne-eqb _ 0 h)

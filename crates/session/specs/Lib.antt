@@ -1,7 +1,3 @@
 pub mod Calls
 pub mod CallLaws
 pub mod ByRule
-pub mod Histories
-pub mod Demand3
-pub mod HistoryLaws
-pub mod PremiseLaws

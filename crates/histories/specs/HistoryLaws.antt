@@ -7,10 +7,10 @@ use mathlib.Core.Logic.{_≢_}
 use lib.Dec.{eqb}
 use lib.IntN.{ℤ}
 use lib.ListN.{take}
 use Rattle.session.specs.declared.Session.{Session}
 use Rattle.session.specs.Calls.{Draw, drawOf, DrawLeft, bitsOfDraw, drawLeft, Respond, respondOf, RespondLeft, respondLeft}
-use Rattle.session.specs.Histories.{Call, draw, respond, leftBy, refusalIn, nextIn, yIn, Linked, readList, drew, answered, history}
-use Rattle.session.specs.Demand3.{sampled, answer, seen}
+use Rattle.histories.specs.Histories.{Call, draw, respond, leftBy, refusalIn, nextIn, yIn, Linked, readList, drew, answered, history}
+use Rattle.histories.specs.Demand3.{sampled, answer, seen}
 
 -- ** Any calls can be linked
 

@@ -6,13 +6,13 @@ use Prim.Native.Nat.{ℕ}
 use lib.Dec.{eqb}
 use lib.IntN.{ℤ}
 use Rattle.read_list.specs.Agreement.{Agree}
 use Rattle.session.specs.declared.Session.{Session}
 use Rattle.session.specs.Calls.{opened}
-use Rattle.session.specs.Histories.{Call, leftBy, refusalIn, nextIn, yIn, Linked, readList, renderEvent}
-use Rattle.session.specs.Demand3.{NoneRefused, AllAlike, lent, Agreeing, seen, Demand3}
-use Rattle.session.proofs.Calls.{served-entries}
-use Rattle.session.proofs.Rendering.{reads-tell}
-use Rattle.session.proofs.SameCalls.{same-calls}
+use Rattle.histories.specs.Histories.{Call, leftBy, refusalIn, nextIn, yIn, Linked, readList, renderEvent}
+use Rattle.histories.specs.Demand3.{NoneRefused, AllAlike, lent, Agreeing, seen, Demand3}
+use Rattle.histories.proofs.Entries.{served-entries}
+use Rattle.histories.proofs.Rendering.{reads-tell}
+use Rattle.histories.proofs.SameCalls.{same-calls}
 
 -- ** Lists of calls that are alike and agree
 

@@ -15,10 +15,11 @@ use Rattle.sampler.proofs.DrawTells.{length-drawEntries, draw-tells}
 use Rattle.challenge.specs.Challenge.{positionsBelow}
 use Rattle.response.specs.Response.{respondEntries}
 use Rattle.response.proofs.RespondTells.{respond-tells}
 use Rattle.session.specs.declared.Session.{Session}
 use Rattle.session.specs.Calls.{bitsOfDraw}
-use Rattle.session.specs.Histories.{Call, draw, respond, leftBy, refusalIn, nextIn, entriesIn, readList, Event, drew, answered, eventOf, history, renderEvent, render}
-use Rattle.session.proofs.Calls.{by-refusal, draw-passed, draw-entries-few, respond-passed, served-entries, refused-entries}
+use Rattle.histories.specs.Histories.{Call, draw, respond, leftBy, refusalIn, nextIn, entriesIn, readList, Event, drew, answered, eventOf, history, renderEvent, render}
+use Rattle.session.proofs.Calls.{by-refusal, draw-passed, draw-entries-few, respond-passed}
+use Rattle.histories.proofs.Entries.{served-entries, refused-entries}
 
 -- ** Events that occur
 

@@ -7,12 +7,12 @@ use lib.Dec.{eqb}
 use lib.IntN.{ℤ}
 use borrow.Author.Tests.{eq-eqb, ne-eqb}
 use Rattle.response.specs.Response.{respondedBy}
 use Rattle.session.specs.declared.Session.{Session}
 use Rattle.session.specs.Calls.{drawLeft, Respond, bitOfRespond, respondServed, respondLeft}
-use Rattle.session.specs.Histories.{Call, draw, respond, leftBy, refusalIn, nextIn, yIn, lentY, Linked, readList, eventOf, history}
-use Rattle.session.specs.Demand3.{seen}
-use Rattle.session.specs.HistoryLaws.{lending, threaded, AnyCallsLink, NoCallsAddNothing, EveryDrawAdds, EveryRespondAdds}
+use Rattle.histories.specs.Histories.{Call, draw, respond, leftBy, refusalIn, nextIn, yIn, lentY, Linked, readList, eventOf, history}
+use Rattle.histories.specs.Demand3.{seen}
+use Rattle.histories.specs.HistoryLaws.{lending, threaded, AnyCallsLink, NoCallsAddNothing, EveryDrawAdds, EveryRespondAdds}
 use Rattle.session.proofs.Calls.{draw-wrote, respond-left, respond-wrote}
 
 -- ** Any calls can be linked
 

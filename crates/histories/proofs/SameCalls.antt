@@ -9,11 +9,11 @@ use Rattle.sampler.specs.Draw.{drawY, drawEntries, sampledBy}
 use Rattle.sampler.proofs.Agreement.{same-bits, same-y}
 use Rattle.response.specs.Response.{respondEntries, respondedBy}
 use Rattle.response.proofs.Agreement.{same-z, same-bit}
 use Rattle.session.specs.declared.Session.{Session}
 use Rattle.session.specs.Calls.{Draw, bitsOfDraw, drawServed, drawLeft, Respond, bitOfRespond, zOfRespond, respondServed, respondLeft}
-use Rattle.session.specs.Histories.{Call, draw, respond, leftBy, refusalIn, nextIn, yIn, lentY, eventOf, renderEvent}
-use Rattle.session.specs.Demand3.{Alike, lent, seenIn}
+use Rattle.histories.specs.Histories.{Call, draw, respond, leftBy, refusalIn, nextIn, yIn, lentY, eventOf, renderEvent}
+use Rattle.histories.specs.Demand3.{Alike, lent, seenIn}
 use Rattle.session.proofs.Calls.{draw-left, draw-passed, respond-left, respond-passed}
 
 -- what two calls give and leave alike
 pub record SameCall (s : Session) (c c′ : Call) : Type 0 where

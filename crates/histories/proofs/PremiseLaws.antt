@@ -3,11 +3,11 @@ use mathlib.Core.Path.{_≡_, refl, subst}
 use mathlib.Core.List.{List, _∷_, List·Memᴰ}
 use borrow.Author.Tests.{eq-eqb}
 use Rattle.read_list.specs.Agreement.{Agree}
 use Rattle.session.specs.declared.Session.{Session}
-use Rattle.session.specs.Histories.{Call, draw, respond, leftBy, refusalIn, nextIn, yIn, entriesIn, lentY, Linked}
-use Rattle.session.specs.Demand3.{NoneRefused, Alike, AllAlike, lent, Agreeing}
-use Rattle.session.specs.PremiseLaws.{Premises, NoCallsMeet, DrawsMeet, RespondsMeet}
+use Rattle.histories.specs.Histories.{Call, draw, respond, leftBy, refusalIn, nextIn, yIn, entriesIn, lentY, Linked}
+use Rattle.histories.specs.Demand3.{NoneRefused, Alike, AllAlike, lent, Agreeing}
+use Rattle.histories.specs.PremiseLaws.{Premises, NoCallsMeet, DrawsMeet, RespondsMeet}
 use Rattle.session.proofs.Calls.{draw-wrote, respond-wrote}
 
 pub no-calls-meet : NoCallsMeet
 unfolding Linked NoneRefused AllAlike Agreeing

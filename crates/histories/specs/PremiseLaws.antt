@@ -5,10 +5,10 @@ use mathlib.Core.List.{List, [], _∷_, List·Memᴰ}
 use Prim.Native.Nat.{ℕ, _/_, _%_, _^_}
 use lib.IntN.{ℤ, pos}
 use lib.ListN.{getD, take}
 use Rattle.session.specs.declared.Session.{Session}
 use Rattle.session.specs.Calls.{Draw, drawLeft, Respond, respondLeft}
-use Rattle.session.specs.Histories.{Call, draw, respond, Linked}
-use Rattle.session.specs.Demand3.{NoneRefused, AllAlike, Agreeing}
+use Rattle.histories.specs.Histories.{Call, draw, respond, Linked}
+use Rattle.histories.specs.Demand3.{NoneRefused, AllAlike, Agreeing}
 
 -- all that it asks for, but for equal degrees
 pub record Premises (s s′ : Session) (y y′ : List ℤ) (calls calls′ : List Call) : Type 0 where

@@ -5,12 +5,12 @@ use mathlib.Core.List.{List, [], _∷_}
 use Prim.Native.Nat.{ℕ}
 use lib.IntN.{ℤ}
 use Rattle.read_list.specs.Agreement.{Lent, Agree}
 use Rattle.session.specs.declared.Session.{Session}
 use Rattle.session.specs.declared.Drawn.{Drawn}
 use Rattle.session.specs.declared.Responded.{Responded}
 use Rattle.session.specs.Calls.{opened}
-use Rattle.session.specs.Histories.{Call, draw, respond, Left, drawn, responded, leftBy, refusalIn, nextIn, entriesIn}
-use Rattle.session.specs.Histories.{Linked, readList, history}
+use Rattle.histories.specs.Histories.{Call, draw, respond, Left, drawn, responded, leftBy, refusalIn, nextIn, entriesIn}
+use Rattle.histories.specs.Histories.{Linked, readList, history}
 
 -- ** What the second half asks of two lists of calls
 

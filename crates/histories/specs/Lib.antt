@@ -1,0 +1,4 @@
+pub mod Histories
+pub mod Demand3
+pub mod HistoryLaws
+pub mod PremiseLaws
