@@ -1,6 +1,6 @@
 -- Demand 3: a read list tells the history and no more, and leaves out no place that an answer hangs on. Assumes nothing.
 use mathlib.Core.Path.{_≡_, refl, sym, ap, ap₂, _∙_, subst}
-use mathlib.Core.Bool.{true, false, cond, false≢true}
+use mathlib.Core.Bool.{true, cond, false≢true}
 use mathlib.Core.List.{List, [], _∷_, _++_}
 use Prim.Native.Nat.{ℕ}
 use lib.Dec.{eqb}
@@ -8,6 +8,7 @@ use lib.IntN.{ℤ}
 use Rattle.read_list.specs.Agreement.{Agree}
 use Rattle.session.specs.declared.Session.{Session}
 use Rattle.session.specs.Calls.{opened}
+use Rattle.session.proofs.CallLaws.{opening-is-fresh}
 use Rattle.histories.specs.Histories.{Call, leftBy, refusalIn, nextIn, yIn, Linked, readList, renderEvent}
 use Rattle.histories.specs.Demand3.{NoneRefused, AllAlike, lent, Agreeing, seen, Demand3}
 use Rattle.histories.proofs.Entries.{served-entries}
@@ -32,33 +33,26 @@ same-lists s y y′ (c ∷ calls) (c′ ∷ calls′) ys l l′ h h′ alike sam
     let agree = subst (Agree (lent c) (lent c′)) (served-entries s c (h .0)) (same .0) in
     let here = same-calls s c c′ (h .0) (h′ .0) (alike .0) (λ drawn. l .0 (h .0) ∙ ys drawn ∙ sym (l′ .0 (h′ .0))) agree in
     let entries = served-entries s c (h .0) ∙ ap renderEvent (here .event-same) ∙ sym (served-entries s c′ (h′ .0)) in
-    let back = sym (here .next-same) in
     let later = same-lists (nextIn (leftBy s c)) (yIn (leftBy s c)) (yIn (leftBy s c′)) calls calls′ (λ drawn. here .y-same)
-    (linked-on s y c calls (h .0) l) (subst (λ (x : Session). Linked x (yIn (leftBy s c′)) calls′) back (linked-on s y′ c′ calls′ (h′ .0) l′))
-    (h .1) (subst (λ (x : Session). NoneRefused x calls′) back (h′ .1)) (alike .1) (same .1) in (
+    (linked-on s y c calls (h .0) l) (rw (← here .next-same) at (linked-on s y′ c′ calls′ (h′ .0) l′))
+    (h .1) (rw (← here .next-same) at (h′ .1)) (alike .1) (same .1) in (
       ap₂ _∷_ (here .seen-same) (later .0 ∙ ap (λ (x : Session). seen x calls′) (here .next-same)),
       ap₂ _++_ entries (later .1 ∙ ap (λ (x : Session). readList x calls′) (here .next-same)),
     )
 
 -- ** From an opening
 
-nothing-drawn : (n : ℕ) → opened n .session .drawn ≡ false
-unfolding opened
-nothing-drawn n = refl
-
 same-opened : (n n′ : ℕ) → opened n .session .degree ≡ opened n′ .session .degree → opened n .session ≡ opened n′ .session
 unfolding opened
 same-opened n n′ degrees = rw degrees
 
--- the second half: what is lent and agrees at every listed place gives the same
-pub agreeing-gives-same : (n n′ : ℕ) (y y′ : List ℤ) (calls calls′ : List Call) → let s = opened n .session in let s′ = opened n′ .session in
-    Linked s y calls → Linked s′ y′ calls′ → s .degree ≡ s′ .degree → NoneRefused s calls → NoneRefused s′ calls′ → AllAlike calls calls′ → Agreeing s calls calls′
-    → (seen s calls ≡ seen s′ calls′) × (readList s calls ≡ readList s′ calls′)
-agreeing-gives-same n n′ y y′ calls calls′ linked linked′ degrees served served′ alike same =
-    let e = same-opened n n′ degrees in
-    rw (← e) (same-lists (opened n .session) y y′ calls calls′ (λ drawn. absurd (false≢true (sym (nothing-drawn n) ∙ drawn))) linked (rw (← e) at linked′) served (rw (← e) at served′) alike same)
-
 -- ** Both halves
 
 pub demand3 : Demand3
-demand3 n n′ y y′ calls calls′ linked linked′ = (reads-tell (opened n .session) (opened n′ .session) calls calls′, agreeing-gives-same n n′ y y′ calls calls′ linked linked′)
+demand3 n n′ y y′ calls calls′ linked linked′ = (
+  reads-tell (opened n .session) (opened n′ .session) calls calls′,
+  λ degrees served served′ alike same.
+      let e = same-opened n n′ degrees in
+      rw (← e) (same-lists (opened n .session) y y′ calls calls′ (λ drawn. absurd (false≢true (sym (opening-is-fresh n .not-drawn) ∙ drawn)))
+      linked (rw (← e) at linked′) served (rw (← e) at served′) alike same),
+)

@@ -19,7 +19,7 @@ use Rattle.response.specs.ByRule.{PlusOrMinus, AllTestsPass}
 use Rattle.response.proofs.ByRule.{response-plus-or-minus, plus-or-minus-one, bit-by-tests, respond-lists}
 use Rattle.refusals.proofs.FirstRefusal.{opening-refuses, draw-refuses, respond-refuses}
 use Rattle.session.specs.declared.Session.{Session}
-use Rattle.session.specs.Calls.{opened, Draw, refusalOfDraw, bitsOfDraw, drawServed, drawLeft}
+use Rattle.session.specs.Calls.{opened, Draw, refusalOfDraw, bitsOfDraw, drawServed}
 use Rattle.session.specs.Calls.{Respond, refusalOfRespond, bitOfRespond, zOfRespond, respondServed, respondLeft}
 use Rattle.session.specs.ByRule.{OpeningRefusesFirst, DrawRefusesFirst, ServedDrawByRule, RespondRefusesFirst, ServedRespondByRule}
 use Rattle.session.proofs.Calls.{draw-left, draw-passed, draw-fits, respond-left, respond-passed, respond-fits}
