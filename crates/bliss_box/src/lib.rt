@@ -29,8 +29,7 @@ pub extern "C" fn bliss_draw(
     y: &mut [i32],
     list: &mut [u32],
 ) -> Drawn
-    ensures { λ r. ⌜
-        afterDraw r (now (y .exit)) (now (list .exit))
+    ensures { λ r. ⌜ afterDraw r (now (y .exit)) (now (list .exit))
         ≡ drawLeft session (drawOf limit (now (cdt .entry)) (now (polynomial .entry)) (now (words .entry))
         (now (y .entry)) (now (list .entry))) ⌝ }
 {
@@ -50,8 +49,7 @@ pub extern "C" fn bliss_respond(
     z: &mut [i32],
     list: &mut [u32],
 ) -> Responded
-    ensures { λ r. ⌜
-        afterRespond r (now (y .exit)) (now (z .exit)) (now (list .exit))
+    ensures { λ r. ⌜ afterRespond r (now (y .exit)) (now (z .exit)) (now (list .exit))
         ≡ respondLeft session (respondOf (now (challenge .entry)) (now (polynomial .entry)) (now (words .entry))
         (now (key .entry)) (now (y .entry)) (now (z .entry)) (now (list .entry))) ⌝ }
 {

@@ -84,8 +84,7 @@ impl Session {
         y: &mut [i32],
         list: &mut [u32],
     ) -> Drawn
-        ensures { λ r. ⌜
-            afterDraw r (now (y .exit)) (now (list .exit))
+        ensures { λ r. ⌜ afterDraw r (now (y .exit)) (now (list .exit))
             ≡ drawLeft self (drawOf limit (now (cdt .entry)) (now (polynomial .entry)) (now (words .entry))
             (now (y .entry)) (now (list .entry))) ⌝ }
     {
@@ -127,8 +126,7 @@ impl Session {
         z: &mut [i32],
         list: &mut [u32],
     ) -> Responded
-        ensures { λ r. ⌜
-            afterRespond r (now (y .exit)) (now (z .exit)) (now (list .exit))
+        ensures { λ r. ⌜ afterRespond r (now (y .exit)) (now (z .exit)) (now (list .exit))
             ≡ respondLeft self (respondOf (now (challenge .entry)) (now (polynomial .entry)) (now (words .entry))
             (now (key .entry)) (now (y .entry)) (now (z .entry)) (now (list .entry))) ⌝ }
     {
