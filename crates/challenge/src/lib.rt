@@ -1,4 +1,4 @@
-// The challenge, and its product with the key modulo X^n + 1. What hangs on the challenge may branch; nothing hangs on a key value.
+// The challenge, and its product with the key modulo X^n + 1. Branches may depend on the challenge, and none on a key value.
 ghost use mathlib.Core.Path.{_≡_};
 ghost use mathlib.Core.Bool.{true};
 ghost use Prim.Native.Nat.{_+_, _*_, _≤_, _<_};

@@ -1,4 +1,4 @@
--- Demand 3: a read list tells the history and no more, and leaves out no place that an answer hangs on. Assumes nothing.
+-- Demand 3: a read list tells the history and no more, and leaves out no place that an answer depends on. Assumes nothing.
 use mathlib.Core.Path.{_≡_, refl, sym, ap, ap₂, _∙_, subst}
 use mathlib.Core.Bool.{true, cond, false≢true}
 use mathlib.Core.List.{List, [], _∷_, _++_}

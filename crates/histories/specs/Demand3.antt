@@ -1,4 +1,4 @@
--- Demand 3: a read list tells the history and no more, and leaves out no place that an answer hangs on. Assumes nothing.
+-- Demand 3: a read list tells the history and no more, and leaves out no place that an answer depends on. Assumes nothing.
 use mathlib.Core.Path.{_≡_}
 use mathlib.Core.Logic.{_↔_}
 use mathlib.Core.List.{List, [], _∷_}
