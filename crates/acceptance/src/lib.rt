@@ -20,8 +20,6 @@ const BIT_AT: usize = SECOND_AT + exponential::POLYNOMIAL_WORDS;
 
 pub const ENTRIES: usize = BIT_AT + 1;
 
-const TWO_63: u64 = 2 * arithmetic::TWO_62;
-
 // What the bit of a response depends on: the sums A, Z and I, and two words.
 pub struct Measures {
     pub squares: u64,
@@ -38,7 +36,7 @@ fn passes_cosh(e: u64, word: u64) -> bool
 {
     let f = arithmetic::square_shift62(e);
     let left = arithmetic::product(arithmetic::low62(word), arithmetic::TWO_62 + f);
-    let right = arithmetic::product(e, TWO_63);
+    let right = arithmetic::product(e, arithmetic::TWO_63);
     arithmetic::less(left, right) == 1
 }
 

@@ -9,13 +9,15 @@ ghost use Rattle.arithmetic.specs.Words.{low62Of, value, value62, bit};
 // 2^62: 1 in units of 2^-62, and above all that 62 bits can hold.
 pub const TWO_62: u64 = 0x4000_0000_0000_0000;
 
+pub const TWO_63: u64 = 2 * TWO_62;
+
 // The number high * 2^64 + low.
 pub struct Wide {
     pub high: u64,
     pub low: u64,
 }
 
-// The number high * 2^62 + low, both below 2^62: a draw, or a threshold.
+// The number high * 2^62 + low: a draw, or a threshold.
 pub struct Wide62 {
     pub high: u64,
     pub low: u64,
@@ -143,12 +145,12 @@ pub fn less62(a: Wide62, b: Wide62) -> u64
     less_by_digits(a.high, a.low, b.high, b.low)
 }
 
-// 1 where one number of two digits is below another, else 0, in any base that the low digits are below. The low digits decide whether
-// equal high digits are enough: no jump.
-fn less_by_digits(high: u64, low: u64, other: u64, below: u64) -> u64
-    requires { ⌜ other < 2 ^ 64 - 1 ⌝ }
-    ensures { λ r. ⌜ r ≡ bit (ltb high (other + bit (ltb low below))) ⌝ }
+// 1 where the digits a1, a0 are a smaller number than b1, b0, else 0, in any base that the low digits are below. These decide whether equal
+// high digits are enough: no jump.
+fn less_by_digits(a1: u64, a0: u64, b1: u64, b0: u64) -> u64
+    requires { ⌜ b1 < 2 ^ 64 - 1 ⌝ }
+    ensures { λ r. ⌜ r ≡ bit (ltb a1 (b1 + bit (ltb a0 b0))) ⌝ }
 {
-    let borrow = (low < below) as u64;
-    (high < other + borrow) as u64
+    let borrow = (a0 < b0) as u64;
+    (a1 < b1 + borrow) as u64
 }

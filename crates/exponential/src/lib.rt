@@ -14,7 +14,7 @@ pub const RECIPROCAL_215: u64 = 3269134179596076729;
 pub const LIMIT: u64 = 5534960;
 
 // What the exponential by n alone gives where n is refused: 2^63 + 12, which is no value of e.
-const REFUSED: u64 = 2 * arithmetic::TWO_62 + refused::EXPONENT as u64;
+const REFUSED: u64 = arithmetic::TWO_63 + refused::EXPONENT as u64;
 
 // The words of the polynomial table.
 pub const POLYNOMIAL_WORDS: usize = 21;

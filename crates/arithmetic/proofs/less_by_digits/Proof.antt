@@ -11,7 +11,7 @@ cast-borrow : tie.Need-cast-borrow
 cast-borrow c = search needs
 
 add-result : tie.Need-add-result
-add-result c = record { fits = omega (arith, c .pre, bit-le (ltb (c .args .low) (c .args .below))) }
+add-result c = record { fits = omega (arith, c .pre, bit-le (ltb (c .args .a0) (c .args .b0))) }
 
 cast-result : tie.Need-cast-result
 cast-result c = search needs
