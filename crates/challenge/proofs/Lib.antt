@@ -1,9 +1,1 @@
 pub mod Positions
-pub mod ProductSizes
-pub mod OutputByPositions
-pub mod HalfByOutputs
-pub mod ProductByHalves
-pub mod ProductTells
-pub mod Agreement
-pub mod Modulo
-pub mod InOrder

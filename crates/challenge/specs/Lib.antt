@@ -1,4 +1,1 @@
 pub mod Challenge
-pub mod Product
-pub mod Modulo
-pub mod InOrder

@@ -10,7 +10,7 @@ use Rattle.known_points.specs.EvenThresholds.{thresholdsFrom, evenThresh
 use Rattle.attempt.specs.Attempt.{accepts, sample, bitAt, sampleAt, attemptEntries}
 use Rattle.sampler.specs.Draw.{bitsFrom, drawBits, accepted, samplesFrom, drawY, entriesFrom, drawEntries, sampledBy}
 use Rattle.challenge.specs.Challenge.{positionsBelow, ascends, arePositions, isChallenge}
-use Rattle.challenge.specs.Product.{termAt, outputAt, outputsFrom, product, outputEntries, outputEntriesFrom, productEntries}
+use Rattle.challenge_product.specs.Product.{termAt, outputAt, outputsFrom, product, outputEntries, outputEntriesFrom, productEntries}
 use Rattle.acceptance.specs.Acceptance.{coshPasses, allPass, acceptsBy, acceptanceEntries}
 use Rattle.response.specs.Response.{responseOf, responseZ, measuresOf, responseBit, respondEntries, respondedBy}
 use Rattle.refusals.specs.Refusals.{openRefusal, drawRefusal, noiseRefusal, respondRefusal}

@@ -12,7 +12,7 @@ use Rattle.exponential.specs.Exponential.{polynomial, reciprocal, divisor, limi
 use Rattle.base_sample.specs.BaseSample.{isCdt, baseSample}
 use Rattle.known_points.specs.EvenThresholds.{evenThresholds}
 use Rattle.attempt.specs.Attempt.{size, exponent, drawAt, lowBitsAt, negativeAt, bitAt, sampleAt}
-use Rattle.challenge.specs.Product.{product}
+use Rattle.challenge_product.specs.Product.{product}
 use Rattle.acceptance.specs.Acceptance.{squaresLimit, coshPasses}
 use Rattle.response.specs.Response.{responseBound, subtracts, responseZ, responseBit}
 

@@ -16,7 +16,7 @@ use Rattle.exponential.proofs.Table.{polynomial-of}
 use Rattle.base_sample.specs.BaseSample.{wordsSmall, neverFalls, isCdt}
 use Rattle.challenge.specs.Challenge.{isChallenge}
 use Rattle.challenge.proofs.Positions.{Challenge, challenge-of}
-use Rattle.challenge.specs.Product.{keyBound}
+use Rattle.challenge_product.specs.Product.{keyBound}
 use Rattle.sampler.specs.Draw.{drawListLength}
 use Rattle.response.specs.Response.{noiseBound, respondListLength}
 use Rattle.refusals.specs.Refusals.{drawTests, drawRefusal, respondTests, respondRefusal}

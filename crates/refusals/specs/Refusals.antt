@@ -11,7 +11,7 @@ use Rattle.exponential.specs.Exponential.{isPolynomial}
 use Rattle.base_sample.specs.BaseSample.{isCdt}
 use Rattle.sampler.specs.Draw.{drawListLength}
 use Rattle.challenge.specs.Challenge.{isChallenge}
-use Rattle.challenge.specs.Product.{keyBound}
+use Rattle.challenge_product.specs.Product.{keyBound}
 use Rattle.response.specs.Response.{noiseBound, respondListLength}
 
 -- opening

@@ -93,7 +93,7 @@ fn noise_refusal(drawn: bool, key: &[i32], y: &[i32]) -> u32
     if !drawn {
         return refused::NOT_DRAWN;
     }
-    let key_small = signed::all_within(key, challenge::KEY_BOUND);
+    let key_small = signed::all_within(key, challenge_product::KEY_BOUND);
     let y_small = signed::all_within(y, response::NOISE_BOUND);
     if key_small & y_small {
         return 0;

@@ -10,8 +10,8 @@ use Rattle.read_list.specs.Entries.{placesUp}
 use Rattle.read_list.specs.Agreement.{Lent, Agree}
 use Rattle.read_list.proofs.Agreement.{agree-first, agree-rest, agree-tail, agree-placesUp, same-word}
 use Rattle.signed.specs.Vectors.{squareSum, innerProduct}
-use Rattle.challenge.specs.Product.{product, productEntries}
-use Rattle.challenge.proofs.Agreement.{same-product}
+use Rattle.challenge_product.specs.Product.{product, productEntries}
+use Rattle.challenge_product.proofs.Agreement.{same-product}
 use Rattle.acceptance.specs.Acceptance.{acceptsBy}
 use Rattle.response.specs.Response.{respondEntries, responseZ, measuresOf, responseBit}
 

@@ -14,10 +14,10 @@ use borrow.Author.Tests.{leb-true, le-leb, ltb-true, lt-ltb, eq-eqb, ne-eqb, eqb
 use Rattle.arithmetic.specs.Words.{low62Of}
 use Rattle.read_list.specs.Entries.{placesUp}
 use Rattle.signed.specs.Vectors.{squareSum, innerProduct}
-use Rattle.challenge.specs.Product.{productEntries}
-use Rattle.challenge.specs.InOrder.{HalvesListed}
-use Rattle.challenge.proofs.ProductSizes.{length-productEntries}
-use Rattle.challenge.proofs.InOrder.{product-listed}
+use Rattle.challenge_product.specs.Product.{productEntries}
+use Rattle.challenge_product.specs.InOrder.{HalvesListed}
+use Rattle.challenge_product.proofs.ProductSizes.{length-productEntries}
+use Rattle.challenge_product.proofs.InOrder.{product-listed}
 use Rattle.acceptance.specs.Acceptance.{firstExponent, secondExponent, coshPasses, allPass, acceptsBy, acceptanceEntries}
 use Rattle.response.specs.Response.{responseOf, responseZ, measuresOf, responseBit, respondEntries}
 use Rattle.response.specs.ByRule.{PlusOrMinus, ResponsePlusOrMinus, BitByTests, RespondLists}

@@ -11,8 +11,8 @@ use Rattle.arithmetic.specs.Words.{bit}
 use Rattle.read_list.specs.Entries.{entry, placesUp}
 use Rattle.read_list.proofs.Runs.{length-placesUp}
 use Rattle.read_list.proofs.Written.{sets-sets}
-use Rattle.challenge.specs.Product.{productEntries}
-use Rattle.challenge.proofs.ProductSizes.{length-productEntries}
+use Rattle.challenge_product.specs.Product.{productEntries}
+use Rattle.challenge_product.proofs.ProductSizes.{length-productEntries}
 use Rattle.acceptance.specs.Acceptance.{acceptanceEntries}
 use Rattle.response.specs.Response.{respondListLength, respondEntries, respondedBy}
 use Rattle.response.proofs.RespondTells.{length-respondEntries}

@@ -12,7 +12,7 @@ use lib.IntN.{ℤ, pos, negℤ, natAbs, _+ℤ_, _*ℤ_, +ℤ-idl, +ℤ-idr, +ℤ
 use Rattle.signed.specs.Vectors.{allWithin, squareSum, innerProduct}
 use Rattle.signed.proofs.Signs.{abs-neg, abs-add, abs-mul}
 use Rattle.signed.proofs.Vectors.{within-parts, within-none, within-more, squares-within, inner-within}
-use Rattle.challenge.specs.Product.{outputBound}
+use Rattle.challenge_product.specs.Product.{outputBound}
 use Rattle.response.specs.Response.{noiseBound, responseBound, responseOf}
 
 -- ** The values

@@ -9,9 +9,9 @@ use Rattle.arithmetic.proofs.Bits.{bit-injective}
 use Rattle.read_list.specs.Entries.{entry, placesUp, placesDown}
 use Rattle.read_list.proofs.Parts.{parts-of-one-length, parts-by-kind}
 use Rattle.challenge.specs.Challenge.{positionsBelow}
-use Rattle.challenge.specs.Product.{productEntries}
-use Rattle.challenge.proofs.ProductSizes.{length-productEntries}
-use Rattle.challenge.proofs.ProductTells.{product-entries-from-8, product-tells}
+use Rattle.challenge_product.specs.Product.{productEntries}
+use Rattle.challenge_product.proofs.ProductSizes.{length-productEntries}
+use Rattle.challenge_product.proofs.ProductTells.{product-entries-from-8, product-tells}
 use Rattle.acceptance.specs.Acceptance.{acceptanceEntries}
 use Rattle.response.specs.Response.{respondEntries}
 

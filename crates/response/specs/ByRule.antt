@@ -9,7 +9,7 @@ use lib.IntN.{ℤ, pos, natAbs, _+ℤ_, _-ℤ_}
 use Rattle.arithmetic.specs.Words.{bit}
 use Rattle.read_list.specs.Entries.{entry, placesDown}
 use Rattle.signed.specs.Vectors.{squareSum, innerProduct}
-use Rattle.challenge.specs.InOrder.{HalvesListed}
+use Rattle.challenge_product.specs.InOrder.{HalvesListed}
 use Rattle.response.specs.Response.{responseZ, responseBit, respondEntries}
 
 -- ** z

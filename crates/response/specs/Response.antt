@@ -8,7 +8,7 @@ use lib.Seq.{sets}
 use lib.IntN.{ℤ, pos, negℤ, _+ℤ_}
 use Rattle.read_list.specs.Entries.{entry, placesUp}
 use Rattle.signed.specs.Vectors.{squareSum, innerProduct}
-use Rattle.challenge.specs.Product.{outputBound, productEntries}
+use Rattle.challenge_product.specs.Product.{outputBound, productEntries}
 use Rattle.response.specs.declared.Answer.{Answer}
 use Rattle.acceptance.specs.declared.Measures.{Measures}
 use Rattle.acceptance.specs.Acceptance.{acceptsBy, acceptanceEntries}

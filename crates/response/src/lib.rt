@@ -10,7 +10,7 @@ ghost use Rattle.arithmetic.specs.Words.{bit};
 ghost use Rattle.read_list.specs.Entries.{entry, placesUp};
 ghost use Rattle.signed.specs.Vectors.{allWithin, squareSum, innerProduct};
 ghost use Rattle.exponential.specs.Exponential.{polynomial, expScaled, limit};
-ghost use Rattle.challenge.specs.Product.{outputBound, product, Factors, productEntries};
+ghost use Rattle.challenge_product.specs.Product.{outputBound, product, Factors, productEntries};
 ghost use Rattle.response.specs.Response.{noiseBound, responseBound, subtracts, responseOf, measuresOf, responseZ, responseBit};
 ghost use Rattle.response.specs.Response.{respondListLength, respondedBy};
 use acceptance::Measures;
@@ -121,7 +121,7 @@ fn measured(
         ≡ sets (now (list .entry)) 0 (entry 7 degree ∷ (productEntries degree (now (challenge .entry)) ++ placesUp 2 0 3)) ⌝ }
 {
     read_list::note(read_list::RESPONSE, degree, list, 0);
-    let squares = challenge::product_listed(key, degree, challenge, z, list, KEY_AT);
+    let squares = challenge_product::product_listed(key, degree, challenge, z, list, KEY_AT);
     let at = KEY_AT + 2 * degree * challenge.len();
     let w = response_words(words, list, at);
     let sums = add_product(w.first, y, z);

@@ -12,8 +12,8 @@ use Rattle.sampler.specs.Draw.{sampledBy, Stops}
 use Rattle.sampler.proofs.DrawStops.{draw-stops}
 use Rattle.sampler.proofs.DrawOrder.{samples-in-order, draw-lists}
 use Rattle.sampler.proofs.DrawTells.{length-drawEntries}
-use Rattle.challenge.specs.Product.{product}
-use Rattle.challenge.proofs.InOrder.{product-halves}
+use Rattle.challenge_product.specs.Product.{product}
+use Rattle.challenge_product.proofs.InOrder.{product-halves}
 use Rattle.response.specs.Response.{respondedBy}
 use Rattle.response.specs.ByRule.{PlusOrMinus, AllTestsPass}
 use Rattle.response.proofs.ByRule.{response-plus-or-minus, plus-or-minus-one, bit-by-tests, respond-lists}

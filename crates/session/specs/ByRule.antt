@@ -9,7 +9,7 @@ use lib.ListN.{length, getD, take}
 use Rattle.exponential.specs.Exponential.{exp}
 use Rattle.attempt.specs.Attempt.{bitAt, sampleAt}
 use Rattle.sampler.specs.Draw.{accepted, Stops, InOrder, Listed}
-use Rattle.challenge.specs.Product.{product}
+use Rattle.challenge_product.specs.Product.{product}
 use Rattle.response.specs.ByRule.{PlusOrMinus, AllTestsPass, ResponseListed}
 use Rattle.refusals.specs.FirstRefusal.{OpeningRefuses, DrawRefuses, RespondRefuses}
 use Rattle.session.specs.declared.Session.{Session}

@@ -8,7 +8,7 @@ use lib.ListN.{length}
 use Rattle.exponential.specs.Exponential.{expWith, divisor}
 use Rattle.sampler.specs.declared.Counts.{Counts}
 use Rattle.sampler.specs.Draw.{drawBits, isFull, Sampled, sampledBy}
-use Rattle.challenge.specs.Product.{product}
+use Rattle.challenge_product.specs.Product.{product}
 use Rattle.response.specs.declared.Answer.{Answer}
 use Rattle.response.specs.Response.{responseZ, responseBit, Response, respondedBy}
 use Rattle.refusals.specs.Refusals.{openRefusal, drawRefusal, respondRefusal}

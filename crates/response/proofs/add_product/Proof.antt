@@ -12,7 +12,7 @@ use mir.Val.{toZ, ofZ}
 use Rattle.signed.specs.Signs.{sign}
 use Rattle.signed.proofs.Signs.{read-back, times-sign}
 use Rattle.signed.proofs.Vectors.{within-at}
-use Rattle.challenge.specs.Product.{outputBound}
+use Rattle.challenge_product.specs.Product.{outputBound}
 use Rattle.response.specs.Response.{noiseBound, responseBound, subtracts, responseOf}
 use Rattle.response.proofs.Passes.{length-response, response-at, response-within, norm-bound, Added, add-start, product-stands, norm-within, add-more, add-end}
 use Rattle.response.proofs.add_product.Statement.{statement}

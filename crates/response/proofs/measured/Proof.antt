@@ -14,8 +14,8 @@ use Rattle.signed.specs.Vectors.{allWithin, squareSum, innerProduct}
 use Rattle.signed.proofs.Signs.{fits-of-abs, read-back}
 use Rattle.read_list.specs.Entries.{entry, placesUp}
 use Rattle.read_list.proofs.Written.{written-behind}
-use Rattle.challenge.specs.Product.{outputBound, product, productEntries}
-use Rattle.challenge.proofs.ProductSizes.{length-product, length-productEntries, product-within}
+use Rattle.challenge_product.specs.Product.{outputBound, product, productEntries}
+use Rattle.challenge_product.proofs.ProductSizes.{length-product, length-productEntries, product-within}
 use Rattle.response.specs.Response.{subtracts, responseOf, responseZ, measuresOf}
 use Rattle.response.proofs.Passes.{inner-bound}
 use Rattle.response.proofs.measured.Statement.{statement}

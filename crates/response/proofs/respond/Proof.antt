@@ -6,8 +6,8 @@ use native.Mathlib.Nat.{mul-le-mul}
 use native.Mathlib.Omega.{arith}
 use lib.ListN.{length, getD}
 use lib.IntN.{natAbs}
-use Rattle.challenge.specs.Product.{product}
-use Rattle.challenge.proofs.ProductSizes.{length-product, product-within}
+use Rattle.challenge_product.specs.Product.{product}
+use Rattle.challenge_product.proofs.ProductSizes.{length-product, product-within}
 use Rattle.acceptance.specs.declared.Measures.{Measures}
 use Rattle.acceptance.specs.Acceptance.{acceptsBy}
 use Rattle.response.specs.Response.{subtracts, responseZ, measuresOf, responseBit}

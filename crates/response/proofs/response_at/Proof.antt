@@ -5,7 +5,7 @@ use native.Mathlib.Nat.{mul-le-mul}
 use native.Mathlib.Omega.{arith}
 use lib.IntN.{ℤ, natAbs, _+ℤ_, _*ℤ_}
 use Rattle.signed.proofs.Signs.{abs-add, abs-mul, read-back}
-use Rattle.challenge.specs.Product.{outputBound}
+use Rattle.challenge_product.specs.Product.{outputBound}
 use Rattle.response.proofs.response_at.Statement.{statement}
 use Rattle.response.proofs.response_at.Tie as tie
 

@@ -7,7 +7,7 @@ use lib.Dec.{lit<}
 use Rattle.checks.proofs.Degrees.{degree-range}
 use Rattle.exponential.specs.Exponential.{expScaled}
 use Rattle.exponential.proofs.Table.{by-215}
-use Rattle.challenge.specs.Product.{product}
+use Rattle.challenge_product.specs.Product.{product}
 use Rattle.response.specs.Response.{responseBit, Response, respondedBy}
 use Rattle.session.specs.declared.Session.{Session}
 use Rattle.session.specs.declared.Responded.{Responded}

@@ -7,7 +7,7 @@ use Prim.Native.Nat.{ℕ, _+_, _-_, _*_, _≤_, _<_}
 use lib.Dec.{leb, ltb}
 use lib.ListN.{length, getD}
 use lib.IntN.{ℤ, pos, negℤ, _+ℤ_, _-ℤ_}
-use Rattle.challenge.specs.Product.{outputAt}
+use Rattle.challenge_product.specs.Product.{outputAt}
 
 -- the coefficient of X ^ k in a half times X ^ c
 unfoldable pub shiftedAt : (key : List ℤ) (n base k c : ℕ) → ℤ

@@ -12,8 +12,8 @@ use lib.IntN.{ℤ, pos, natAbs, _+ℤ_, +ℤ-idl, +ℤ-idr, +ℤ-assoc}
 use Rattle.signed.specs.Vectors.{allWithin}
 use Rattle.signed.proofs.Signs.{abs-add}
 use Rattle.read_list.specs.Entries.{entry}
-use Rattle.challenge.proofs.ProductSizes.{term-within}
-use Rattle.challenge.specs.Product.{keyBound, indexOf, termAt, outputAt, outputEntries}
+use Rattle.challenge_product.proofs.ProductSizes.{term-within}
+use Rattle.challenge_product.specs.Product.{keyBound, indexOf, termAt, outputAt, outputEntries}
 
 -- after k positions: the sum and what the others add are the output, and what is listed and what they list are its entries
 pub record Summed (key : List ℤ) (n base i : ℕ) (challenge list₀ : List ℕ) (at : ℕ) (list : List ℕ) (sum : ℤ) (k : ℕ)

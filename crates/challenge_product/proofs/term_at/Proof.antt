@@ -1,4 +1,4 @@
--- `challenge::term_at` meets its contract: the position wraps or not. Assumes nothing.
+-- `challenge_product::term_at` meets its contract: the position wraps or not. Assumes nothing.
 use borrow.Author.Needs.{needs}
 use borrow.Author.Tests.{le-leb, lt-leb}
 use mathlib.Core.Path.{ap, _∙_}
@@ -9,9 +9,9 @@ use mir.Syntax.{w32}
 use mir.Val.{toZ, ofZ}
 use Rattle.signed.proofs.Signs.{read-back, zero-minus, zero-minus-fits}
 use Rattle.signed.proofs.Vectors.{within-at}
-use Rattle.challenge.specs.Product.{termAt}
-use Rattle.challenge.proofs.term_at.Statement.{statement}
-use Rattle.challenge.proofs.term_at.Tie as tie
+use Rattle.challenge_product.specs.Product.{termAt}
+use Rattle.challenge_product.proofs.term_at.Statement.{statement}
+use Rattle.challenge_product.proofs.term_at.Tie as tie
 
 -- ** The states, each from the one after it
 

@@ -11,9 +11,9 @@ use lib.IntN.{ℤ}
 use Rattle.signed.specs.Vectors.{squareSum}
 use Rattle.signed.proofs.Vectors.{squares-within, squares-append}
 use Rattle.read_list.proofs.Written.{sets-sets, sets-whole}
-use Rattle.challenge.proofs.ProductSizes.{product-within, length-outputsFrom, length-product, half-bound}
-use Rattle.challenge.proofs.ProductSizes.{length-outputEntriesFrom, length-productEntries}
-use Rattle.challenge.specs.Product.{outputBound, outputsFrom, product, Factors, outputEntriesFrom, productEntries}
+use Rattle.challenge_product.proofs.ProductSizes.{product-within, length-outputsFrom, length-product, half-bound}
+use Rattle.challenge_product.proofs.ProductSizes.{length-outputEntriesFrom, length-productEntries}
+use Rattle.challenge_product.specs.Product.{outputBound, outputsFrom, product, Factors, outputEntriesFrom, productEntries}
 
 -- what is left of the product and of its entries, from the half that starts at base on
 abbrev outputsLeft : (key : List ℤ) (n : ℕ) (challenge : List ℕ) (base : ℕ) → List ℤ

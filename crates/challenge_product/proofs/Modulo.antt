@@ -8,8 +8,8 @@ use lib.Dec.{leb}
 use lib.ListN.{length, getD}
 use lib.IntN.{ℤ, pos, negℤ, _+ℤ_, _-ℤ_, +ℤ-idl, +ℤ-idr, +ℤ-assoc, +ℤ-comm, negℤ-+ℤ}
 use borrow.Author.Tests.{leb-true, leb-false, le-leb, lt-leb, lt-ltb, le-ltb}
-use Rattle.challenge.specs.Product.{termAt, outputAt}
-use Rattle.challenge.specs.Modulo.{shiftedAt, coefficientAt, ProductModulo, OutputByOneMore}
+use Rattle.challenge_product.specs.Product.{termAt, outputAt}
+use Rattle.challenge_product.specs.Modulo.{shiftedAt, coefficientAt, ProductModulo, OutputByOneMore}
 
 -- ** One position
 

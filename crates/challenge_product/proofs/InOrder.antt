@@ -9,10 +9,10 @@ use borrow.Author.Tests.{le-leb, lt-leb}
 use lib.Seq.{getD-append-add}
 use lib.IntN.{ℤ, pos}
 use Rattle.read_list.specs.Entries.{entry}
-use Rattle.challenge.specs.Product.{indexOf, outputAt, outputsFrom, product, outputEntries, outputEntriesFrom, productEntries}
-use Rattle.challenge.specs.InOrder.{ProductHalves, IndexListed, ProductListed}
-use Rattle.challenge.proofs.ProductTells.{output-entry-at}
-use Rattle.challenge.proofs.ProductSizes.{length-outputsFrom, length-product, length-outputEntries, length-outputEntriesFrom}
+use Rattle.challenge_product.specs.Product.{indexOf, outputAt, outputsFrom, product, outputEntries, outputEntriesFrom, productEntries}
+use Rattle.challenge_product.specs.InOrder.{ProductHalves, IndexListed, ProductListed}
+use Rattle.challenge_product.proofs.ProductTells.{output-entry-at}
+use Rattle.challenge_product.proofs.ProductSizes.{length-outputsFrom, length-product, length-outputEntries, length-outputEntriesFrom}
 
 -- ** Outputs
 

@@ -10,8 +10,8 @@ use lib.Seq.{sets, length-sets}
 use lib.IntN.{ℤ, natAbs}
 use Rattle.signed.specs.Vectors.{squareSum}
 use Rattle.read_list.proofs.Written.{sets-sets}
-use Rattle.challenge.proofs.ProductSizes.{length-outputEntries}
-use Rattle.challenge.specs.Product.{outputAt, outputsFrom, outputEntries, outputEntriesFrom}
+use Rattle.challenge_product.proofs.ProductSizes.{length-outputEntries}
+use Rattle.challenge_product.specs.Product.{outputAt, outputsFrom, outputEntries, outputEntriesFrom}
 
 -- after i outputs: what is written, summed and listed, and what the others give, are the half's
 pub record Halved (key : List ℤ) (n base : ℕ) (challenge : List ℕ) (z₀ : List ℤ) (list₀ : List ℕ) (at : ℕ)

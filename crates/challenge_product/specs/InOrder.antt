@@ -5,7 +5,7 @@ use Prim.Native.Nat.{ℕ, _+_, _-_, _*_, _≤_, _<_}
 use lib.ListN.{length, getD}
 use lib.IntN.{ℤ, pos}
 use Rattle.read_list.specs.Entries.{entry}
-use Rattle.challenge.specs.Product.{outputAt, product, productEntries}
+use Rattle.challenge_product.specs.Product.{outputAt, product, productEntries}
 
 -- Sc is the outputs of s1, then those of s2
 pub record Halves (key : List ℤ) (n : ℕ) (challenge : List ℕ) : Type 0 where

@@ -10,9 +10,9 @@ use lib.IntN.{ℤ, pos, negℤ, natAbs}
 use Rattle.signed.specs.Vectors.{allWithin, squareSum}
 use Rattle.signed.proofs.Signs.{abs-neg, abs-add}
 use Rattle.signed.proofs.Vectors.{within-at, within-none, within-more, within-append, squares-within}
 use Rattle.challenge.specs.Challenge.{mostPositions}
-use Rattle.challenge.specs.Product.{keyBound, outputBound, indexOf, termAt, outputAt, outputsFrom, product, outputEntries}
-use Rattle.challenge.specs.Product.{outputEntriesFrom, productEntries}
+use Rattle.challenge_product.specs.Product.{keyBound, outputBound, indexOf, termAt, outputAt, outputsFrom, product, outputEntries}
+use Rattle.challenge_product.specs.Product.{outputEntriesFrom, productEntries}
 
 -- ** Bounds
 

@@ -1,4 +1,4 @@
--- `challenge::half` meets its contract: after i outputs, what is done and what the others give are the half. Assumes nothing.
+-- `challenge_product::half` meets its contract: after i outputs, what is done and what the others give are the half. Assumes nothing.
 use borrow.Author.Needs.{needs}
 use mathlib.Core.Path.{_≡_, ap, _∙_}
 use Prim.Native.Nat.{ℕ, _+_, _-_, _*_, _≤_}
@@ -9,11 +9,11 @@ use lib.IntN.{ℤ, natAbs}
 use mir.Syntax.{w32}
 use mir.Val.{toZ, ofZ}
 use Rattle.signed.proofs.Signs.{read-back}
-use Rattle.challenge.specs.Product.{outputAt}
-use Rattle.challenge.proofs.ProductSizes.{output-within, half-bound}
-use Rattle.challenge.proofs.HalfByOutputs.{square-fits, Halved, half-start, half-more, half-end}
-use Rattle.challenge.proofs.half.Statement.{statement}
-use Rattle.challenge.proofs.half.Tie as tie
+use Rattle.challenge_product.specs.Product.{outputAt}
+use Rattle.challenge_product.proofs.ProductSizes.{output-within, half-bound}
+use Rattle.challenge_product.proofs.HalfByOutputs.{square-fits, Halved, half-start, half-more, half-end}
+use Rattle.challenge_product.proofs.half.Statement.{statement}
+use Rattle.challenge_product.proofs.half.Tie as tie
 
 abbrev Inv-loop : tie.InvT-loop
 Inv-loop key n base challenge z₀ list₀ at squares₀ i₀ place₀ z list squares i place =

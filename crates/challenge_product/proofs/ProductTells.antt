@@ -10,10 +10,10 @@ use lib.ListN.{length, getD}
 use lib.Seq.{ext-getD}
 use Rattle.read_list.specs.Entries.{entry}
 use Rattle.read_list.proofs.Parts.{FromKind, from-kind-append, parts-of-one-length}
 use Rattle.challenge.specs.Challenge.{positionsBelow}
 use Rattle.challenge.proofs.Positions.{position-below}
-use Rattle.challenge.proofs.ProductSizes.{length-outputEntries, length-productEntries}
-use Rattle.challenge.specs.Product.{indexOf, outputEntries, outputEntriesFrom, productEntries}
+use Rattle.challenge_product.proofs.ProductSizes.{length-outputEntries, length-productEntries}
+use Rattle.challenge_product.specs.Product.{indexOf, outputEntries, outputEntriesFrom, productEntries}
 
 -- ** Their kind
 

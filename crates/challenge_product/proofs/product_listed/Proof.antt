@@ -1,12 +1,12 @@
--- `challenge::product_listed` meets its contract: before each half, what is done and what is left are the product. Assumes nothing.
+-- `challenge_product::product_listed` meets its contract: before each half, what is done and what is left are the product. Assumes nothing.
 use borrow.Author.Needs.{needs}
 use mathlib.Core.Path.{sym, _∙_}
 use Prim.Native.Nat.{_-_, _*_}
 use native.Mathlib.Omega.{arith}
-use Rattle.challenge.proofs.ProductByHalves.{Turn, turn-start, turn-z-size, turn-list-size}
-use Rattle.challenge.proofs.ProductByHalves.{turn-below, turn-room, turn-small, turn-more, turn-end}
-use Rattle.challenge.proofs.product_listed.Statement.{statement}
-use Rattle.challenge.proofs.product_listed.Tie as tie
+use Rattle.challenge_product.proofs.ProductByHalves.{Turn, turn-start, turn-z-size, turn-list-size}
+use Rattle.challenge_product.proofs.ProductByHalves.{turn-below, turn-room, turn-small, turn-more, turn-end}
+use Rattle.challenge_product.proofs.product_listed.Statement.{statement}
+use Rattle.challenge_product.proofs.product_listed.Tie as tie
 
 abbrev Inv-loop : tie.InvT-loop
 Inv-loop key n challenge z₀ list₀ at squares₀ base₀ place₀ z list squares base place =

@@ -1,4 +1,4 @@
--- `challenge::output_at` meets its contract: after k positions the sum and what the others add are the output. Assumes nothing.
+-- `challenge_product::output_at` meets its contract: after k positions the sum and what the others add are the output. Assumes nothing.
 use borrow.Author.Needs.{needs}
 use mathlib.Core.Path.{_≡_, ap, _∙_}
 use Prim.Native.Nat.{_-_, _≤_}
@@ -8,11 +8,11 @@ use lib.IntN.{ℤ, natAbs, _+ℤ_}
 use mir.Syntax.{w32}
 use mir.Val.{toZ, ofZ}
 use Rattle.signed.proofs.Signs.{read-back}
 use Rattle.challenge.proofs.Positions.{position-below}
-use Rattle.challenge.proofs.ProductSizes.{term-within}
-use Rattle.challenge.proofs.OutputByPositions.{Summed, sum-start, sum-more, sum-end}
-use Rattle.challenge.proofs.output_at.Statement.{statement}
-use Rattle.challenge.proofs.output_at.Tie as tie
+use Rattle.challenge_product.proofs.ProductSizes.{term-within}
+use Rattle.challenge_product.proofs.OutputByPositions.{Summed, sum-start, sum-more, sum-end}
+use Rattle.challenge_product.proofs.output_at.Statement.{statement}
+use Rattle.challenge_product.proofs.output_at.Tie as tie
 
 abbrev Inv-loop : tie.InvT-loop
 Inv-loop key n base i challenge list₀ at sum₀ k₀ list sum k = Summed key n base i challenge list₀ at list (toZ w32 sum) k

@@ -1,0 +1,3 @@
+pub mod Product
+pub mod Modulo
+pub mod InOrder
