@@ -16,7 +16,7 @@ use Rattle.session.proofs.Calls.{DrawPassed, draw-left, draw-passed}
 use Rattle.session.proofs.Session.draw.Statement.{statement}
 use Rattle.session.proofs.Session.draw.Tie as tie
 
--- ** The states, from one to an earlier one
+-- ** The states, each from the one after it
 
 abbrev start : tie.After-draw-refusal → tie.Start
 start c = c .before .before .before .before .before

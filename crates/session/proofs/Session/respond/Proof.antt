@@ -17,7 +17,7 @@ use Rattle.session.proofs.Calls.{RespondPassed, respond-left, respond-p
 use Rattle.session.proofs.Session.respond.Statement.{statement}
 use Rattle.session.proofs.Session.respond.Tie as tie
 
--- ** The states, from one to an earlier one
+-- ** The states, each from the one after it
 
 abbrev start : tie.After-respond-refusal → tie.Start
 start c = c .before .before .before .before .before .before
