@@ -31,7 +31,8 @@ byte-is-bit : (t : Bool) → boolByte t ≡ bit t
 byte-is-bit true = refl
 byte-is-bit false = refl
 
-pub judging-written : (t : Bool) (l l₁ l₂ l₃ : List ℕ) (at : ℕ) → l₁ ≡ sets l at (placesDown 4 21) → l₂ ≡ sets l₁ (at + 21) (placesDown 4 21) → l₃ ≡ set l₂ (at + 42) (entry 9 (boolByte t))
+pub judging-written : (t : Bool) (l l₁ l₂ l₃ : List ℕ) (at : ℕ) → l₁ ≡ sets l at (placesDown 4 21)
+    → l₂ ≡ sets l₁ (at + 21) (placesDown 4 21) → l₃ ≡ set l₂ (at + 42) (entry 9 (boolByte t))
     → l₃ ≡ sets l at (acceptanceEntries t)
 unfolding acceptanceEntries placesDown
 judging-written t l l₁ l₂ l₃ at e₁ e₂ e₃ =

@@ -35,7 +35,8 @@ pub length-attempt : (t before : ℕ) → length (attemptEntries t before) ≡ 4
 unfolding attemptEntries placesUp placesDown
 length-attempt t before = refl
 
-pub attempt-written : (l l₁ l₂ l₃ l₄ : List ℕ) (at t k : ℕ) → l₁ ≡ sets l at (placesUp 2 (4 * t) 4) → l₂ ≡ sets l₁ (at + 4) (placesUp 3 0 20) → l₃ ≡ sets l₂ (at + 24) (placesDown 4 21) → l₄ ≡ set l₃ (at + 45) (entry 5 k)
+pub attempt-written : (l l₁ l₂ l₃ l₄ : List ℕ) (at t k : ℕ) → l₁ ≡ sets l at (placesUp 2 (4 * t) 4)
+    → l₂ ≡ sets l₁ (at + 4) (placesUp 3 0 20) → l₃ ≡ sets l₂ (at + 24) (placesDown 4 21) → l₄ ≡ set l₃ (at + 45) (entry 5 k)
     → l₄ ≡ sets l at (attemptEntries t k)
 unfolding attemptEntries placesUp placesDown
 attempt-written l l₁ l₂ l₃ l₄ at t k e₁ e₂ e₃ e₄ =

@@ -12,7 +12,8 @@ use lib.Seq.{getD-take, getD-drop, getD-append-add}
 use borrow.Author.Tests.{ltb-true, lt-ltb, eqb-true, eq-eqb, ne-eqb}
 use Rattle.read_list.specs.Entries.{entry, placesUp, placesDown}
 use Rattle.read_list.proofs.Runs.{places-up-at, places-down-at}
-use Rattle.attempt.specs.Attempt.{size, exponent, accepts, sample, bitAt, sampleAt, AttemptByItsWords, AttemptByRule, attemptEntries, AttemptLists}
+use Rattle.attempt.specs.Attempt.{size, exponent, accepts, sample, bitAt, sampleAt, AttemptByItsWords, AttemptByRule, attemptEntries}
+use Rattle.attempt.specs.Attempt.{AttemptLists}
 
 -- ** The words
 
@@ -45,7 +46,8 @@ not-both a b c d = (λ h p. no h p, λ h. by h (eqb a b) refl)
     by h true e = by-second h (eqb-true a b e) (eqb c d) refl
     by h false e = refl
 
-accepted-by-rule : (e : ℕ → ℕ) (x b sign u : ℕ) → (accepts e x b (eqb sign 1) u ≡ true) ↔ ((u < e (b * (b + 512 * x))) × ((256 * x + b ≡ 0) × (sign ≡ 1) → ⊥))
+accepted-by-rule : (e : ℕ → ℕ) (x b sign u : ℕ)
+    → (accepts e x b (eqb sign 1) u ≡ true) ↔ ((u < e (b * (b + 512 * x))) × ((256 * x + b ≡ 0) × (sign ≡ 1) → ⊥))
 unfolding accepts
 accepted-by-rule e x b sign u =
     let both = and-eq-true-iff (ltb u (e (exponent x b))) (not (eqb (size x b) 0 && eqb sign 1)) in

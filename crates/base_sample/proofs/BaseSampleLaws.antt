@@ -4,14 +4,16 @@ use mathlib.Core.Bool.{Bool, true, false}
 use mathlib.Core.List.{List}
 use mathlib.Core.Logic.{⊎-elim}
 use Prim.Native.Nat.{ℕ, zero, suc, _+_, _≤_, _<_}
-use native.Mathlib.Nat.{le-trans, le-refl, lt-of-lt-of-le, lt-of-not-le, lt-irrefl, le-antisymm, eq-or-lt-of-le, add-le-add, not-suc-le-zero, le-of-suc-le-suc}
+use native.Mathlib.Nat.{le-trans, le-refl, lt-of-lt-of-le, lt-of-not-le, lt-irrefl, le-antisymm, eq-or-lt-of-le, add-le-add}
+use native.Mathlib.Nat.{not-suc-le-zero, le-of-suc-le-suc}
 use native.Mathlib.Omega.{arith}
 use lib.Arith.{le-zero}
 use lib.Dec.{leb}
 use borrow.Author.Tests.{leb-true, leb-false, le-leb}
 use Rattle.arithmetic.specs.Words.{bit}
 use Rattle.checks.proofs.AllBelow.{all-at}
-use Rattle.base_sample.specs.BaseSample.{threshold, neverFalls, atOrBelow, baseSample, AtJust, BaseSampleExactly, BaseSampleRises, ThresholdByItsWords, Rising}
+use Rattle.base_sample.specs.BaseSample.{threshold, neverFalls, atOrBelow, baseSample, AtJust, BaseSampleExactly, BaseSampleRises}
+use Rattle.base_sample.specs.BaseSample.{ThresholdByItsWords, Rising}
 
 -- ** Thresholds that never fall
 
@@ -36,7 +38,8 @@ module _ (cdt : List ℕ) (d : ℕ) where
   none : AtJust cdt d 0 0
   none = record { at-most = omega arith; at-or-above = λ i h. absurd (not-suc-le-zero h); below = λ i h g. absurd (not-suc-le-zero g) }
 
-  one-more : Rising cdt → (count x : ℕ) → count < 10 → AtJust cdt d count x → AtJust cdt d (suc count) (x + bit (leb (threshold cdt count) d))
+  one-more : Rising cdt → (count x : ℕ) → count < 10 → AtJust cdt d count x
+      → AtJust cdt d (suc count) (x + bit (leb (threshold cdt count) d))
   one-more e count x h r = by (leb (threshold cdt count) d) refl
     where
       -- where d is at or above this threshold, it is below none before

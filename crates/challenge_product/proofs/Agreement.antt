@@ -8,7 +8,8 @@ use lib.Dec.{leb}
 use lib.IntN.{ℤ, negℤ, _+ℤ_}
 use Rattle.read_list.specs.Agreement.{Lent, Agree}
 use Rattle.read_list.proofs.Agreement.{agree-first, agree-rest, agree-head, agree-tail, same-key-value}
-use Rattle.challenge_product.specs.Product.{indexOf, termAt, outputAt, outputsFrom, product, outputEntries, outputEntriesFrom, productEntries}
+use Rattle.challenge_product.specs.Product.{indexOf, termAt, outputAt, outputsFrom, product, outputEntries, outputEntriesFrom}
+use Rattle.challenge_product.specs.Product.{productEntries}
 
 index-at-most : (n i c : ℕ) → indexOf n i c ≤ i + n
 index-at-most n i c = by (leb c i)

@@ -21,12 +21,14 @@ pub record Reached (first : ℕ) (lines : List Line) : Type 0 where
   pub told : first ≡ firstRefusal lines
 
 -- the test of the next line fails, and the call leaves with its refusal
-pub leaves : {first refusal : ℕ} {test : Bool} {lines : List Line} → Reached first (line refusal test ∷ lines) → test ≡ false → refusal ≡ first
+pub leaves : {first refusal : ℕ} {test : Bool} {lines : List Line} → Reached first (line refusal test ∷ lines) → test ≡ false
+    → refusal ≡ first
 unfolding firstRefusal
 leaves r h = sym (r .told ∙ rw h)
 
 -- it holds, and the lines behind it tell
-pub goes-on : {first refusal : ℕ} {test : Bool} {lines : List Line} → Reached first (line refusal test ∷ lines) → test ≡ true → Reached first lines
+pub goes-on : {first refusal : ℕ} {test : Bool} {lines : List Line} → Reached first (line refusal test ∷ lines) → test ≡ true
+    → Reached first lines
 unfolding firstRefusal
 goes-on r h = record { told = r .told ∙ rw h }
 

@@ -21,7 +21,8 @@ pub record FailsWhere (test : Bool) (applies : Type 0) : Type 0 where
 -- ** A table, line by line
 
 pub refuses : {test : Bool} {applies : Type 0} {later : ℕ → Type 0} (refusal : ℕ) (lines : List Line)
-    → FailsWhere test applies → (test ≡ true → later (firstRefusal lines)) → Refuses refusal applies later (firstRefusal (line refusal test ∷ lines))
+    → FailsWhere test applies → (test ≡ true → later (firstRefusal lines))
+    → Refuses refusal applies later (firstRefusal (line refusal test ∷ lines))
 unfolding firstRefusal
 refuses {test = true} refusal lines f rest = passed (f .holds refl) (rest refl)
 refuses {test = false} refusal lines f rest = refused (f .fails refl) refl
@@ -48,7 +49,8 @@ fails-either {a = false} f g = record { fails = λ e. inl (f .fails refl); holds
 
 -- a test at every number below another
 module _ (test : ℕ → Bool) (condition : ℕ → Type 0) (each : (i : ℕ) → FailsWhere (test i) (condition i)) where
-  one-more : (n : ℕ) → (allBelow test n ≡ false → Somewhere n condition) → (t : Bool) → allBelow test n ≡ t → (t && test n) ≡ false → Somewhere (suc n) condition
+  one-more : (n : ℕ) → (allBelow test n ≡ false → Somewhere n condition) → (t : Bool) → allBelow test n ≡ t → (t && test n) ≡ false
+      → Somewhere (suc n) condition
   one-more n before true f e = record { place = n; within = omega arith; there = each n .fails e }
   one-more n before false f e = let s = before f in record { place = s .place; within = omega (arith, s .within); there = s .there }
 
@@ -79,7 +81,8 @@ unfolding powersFrom among
 among-powers k zero n e = absurd (false≢true e)
 among-powers k (suc count) n e = by (among-powers (suc k) count n) (eqb n (2 ^ k)) refl e
   where
-    by : (among (powersFrom (suc k) count) n ≡ true → Power n) → (t : Bool) → eqb n (2 ^ k) ≡ t → (t || among (powersFrom (suc k) count) n) ≡ true → Power n
+    by : (among (powersFrom (suc k) count) n ≡ true → Power n) → (t : Bool) → eqb n (2 ^ k) ≡ t
+        → (t || among (powersFrom (suc k) count) n) ≡ true → Power n
     by later true f g = record { exponent = k; power = eqb-true n (2 ^ k) f }
     by later false f g = later g
 

@@ -18,13 +18,15 @@ use Rattle.histories.proofs.SameCalls.{same-calls}
 -- ** Lists of calls that are alike and agree
 
 -- what follows a call that is served is lent y as the call leaves it
-linked-on : (s : Session) (y : List ℤ) (c : Call) (calls : List Call) → refusalIn (leftBy s c) ≡ 0 → Linked s y (c ∷ calls) → Linked (nextIn (leftBy s c)) (yIn (leftBy s c)) calls
+linked-on : (s : Session) (y : List ℤ) (c : Call) (calls : List Call) → refusalIn (leftBy s c) ≡ 0 → Linked s y (c ∷ calls)
+    → Linked (nextIn (leftBy s c)) (yIn (leftBy s c)) calls
 unfolding Linked
 linked-on s y c calls h linked = subst (λ (refusal : ℕ). Linked (nextIn (leftBy s c)) (cond (eqb refusal 0) (yIn (leftBy s c)) y) calls) h (linked .1)
 
 -- from one session; where y is drawn in it, both lists start from the same y
 same-lists : (s : Session) (y y′ : List ℤ) (calls calls′ : List Call) → (s .drawn ≡ true → y ≡ y′) → Linked s y calls → Linked s y′ calls′
-    → NoneRefused s calls → NoneRefused s calls′ → AllAlike calls calls′ → Agreeing s calls calls′ → (seen s calls ≡ seen s calls′) × (readList s calls ≡ readList s calls′)
+    → NoneRefused s calls → NoneRefused s calls′ → AllAlike calls calls′ → Agreeing s calls calls′
+    → (seen s calls ≡ seen s calls′) × (readList s calls ≡ readList s calls′)
 unfolding Linked NoneRefused AllAlike Agreeing seen readList
 same-lists s y y′ [] [] ys l l′ h h′ alike same = (refl, refl)
 same-lists s y y′ [] (c′ ∷ calls′) ys l l′ h h′ alike same = absurd alike

@@ -45,7 +45,8 @@ every-draw-adds s d calls = record {
 }
 
 -- the bit of the answer is the rule's
-respond-bit : (s : Session) (r : Respond) → let left = respondLeft s r in left .responded .answer .refusal ≡ 0 → bitOfRespond s r ≡ left .responded .answer .bit
+respond-bit : (s : Session) (r : Respond) → let left = respondLeft s r in left .responded .answer .refusal ≡ 0
+    → bitOfRespond s r ≡ left .responded .answer .bit
 unfolding respondServed respondedBy
 respond-bit s r h = rw (respond-left s r .where-served h)
 

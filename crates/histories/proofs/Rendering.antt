@@ -17,7 +17,8 @@ use Rattle.response.specs.Response.{respondEntries}
 use Rattle.response.proofs.RespondTells.{respond-tells}
 use Rattle.session.specs.declared.Session.{Session}
 use Rattle.session.specs.Calls.{bitsOfDraw}
-use Rattle.histories.specs.Histories.{Call, draw, respond, leftBy, refusalIn, nextIn, entriesIn, readList, Event, drew, answered, eventOf, history, renderEvent, render}
+use Rattle.histories.specs.Histories.{Call, draw, respond, leftBy, refusalIn, nextIn, entriesIn, readList, Event, drew, answered}
+use Rattle.histories.specs.Histories.{eventOf, history, renderEvent, render}
 use Rattle.session.proofs.Calls.{by-refusal, draw-passed, draw-entries-few, respond-passed}
 use Rattle.histories.proofs.Entries.{served-entries, refused-entries}
 
@@ -62,7 +63,8 @@ read-list-is-rendered s (c ∷ calls) =
 -- ** What a rendering tells
 
 -- the first event of a rendering, and what follows it: the first entry tells the kind of the call and its degree
-pub event-tells : (e f : Event) (rest rest′ : List ℕ) → Occurs e → Occurs f → renderEvent e ++ rest ≡ renderEvent f ++ rest′ → (e ≡ f) × (rest ≡ rest′)
+pub event-tells : (e f : Event) (rest rest′ : List ℕ) → Occurs e → Occurs f → renderEvent e ++ rest ≡ renderEvent f ++ rest′
+    → (e ≡ f) × (rest ≡ rest′)
 unfolding renderEvent drawEntries respondEntries
 event-tells (drew n bits) (drew m bits′) rest rest′ he hf h =
     let small = degree-range n (he .0) in
@@ -83,7 +85,8 @@ unfolding renderEvent drawEntries respondEntries
 no-event-renders-empty (drew n bits) rest h = let lengths = ap length h in omega arith
 no-event-renders-empty (answered n accepted challenge) rest h = let lengths = ap length h in omega arith
 
-pub render-injective : (events events′ : List Event) → AllOccur events → AllOccur events′ → render events ≡ render events′ → events ≡ events′
+pub render-injective : (events events′ : List Event) → AllOccur events → AllOccur events′ → render events ≡ render events′
+    → events ≡ events′
 unfolding render
 render-injective [] [] h h′ e = refl
 render-injective [] (f ∷ events′) h h′ e = absurd (no-event-renders-empty f (render events′) e)
@@ -95,7 +98,8 @@ render-injective (f ∷ events) (f′ ∷ events′) h h′ e =
 -- ** The first half of demand 3
 
 -- the read lists are equal exactly when the histories are
-pub reads-tell : (s s′ : Session) (calls calls′ : List Call) → (readList s calls ≡ readList s′ calls′) ↔ (history s calls ≡ history s′ calls′)
+pub reads-tell : (s s′ : Session) (calls calls′ : List Call)
+    → (readList s calls ≡ readList s′ calls′) ↔ (history s calls ≡ history s′ calls′)
 reads-tell s s′ calls calls′ = (
   λ e.
       render-injective (history s calls) (history s′ calls′) (history-occurs s calls) (history-occurs s′ calls′)
@@ -115,14 +119,16 @@ unfoldable pub sessionAfter : (s : Session) (calls : List Call) → Session
 sessionAfter s [] = s
 sessionAfter s (c ∷ calls) = sessionAfter (nextIn (leftBy s c)) calls
 
-pub readList-append : (s : Session) (calls later : List Call) → readList s (calls ++ later) ≡ readList s calls ++ readList (sessionAfter s calls) later
+pub readList-append : (s : Session) (calls later : List Call)
+    → readList s (calls ++ later) ≡ readList s calls ++ readList (sessionAfter s calls) later
 unfolding readList sessionAfter
 readList-append s [] later = refl
 readList-append s (c ∷ calls) later =
     rw (readList-append (nextIn (leftBy s c)) calls later)
     (sym (append-assoc (entriesIn (leftBy s c)) (readList (nextIn (leftBy s c)) calls) (readList (sessionAfter (nextIn (leftBy s c)) calls) later)))
 
-pub history-append : (s : Session) (calls later : List Call) → history s (calls ++ later) ≡ history s calls ++ history (sessionAfter s calls) later
+pub history-append : (s : Session) (calls later : List Call)
+    → history s (calls ++ later) ≡ history s calls ++ history (sessionAfter s calls) later
 unfolding history sessionAfter
 history-append s [] later = refl
 history-append s (c ∷ calls) later =

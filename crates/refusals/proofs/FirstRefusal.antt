@@ -15,13 +15,15 @@ use Rattle.signed.proofs.Vectors.{within-at}
 use Rattle.checks.specs.Checks.{allBelow}
 use Rattle.checks.proofs.JoinedTests.{both-true}
 use Rattle.checks.proofs.AllBelow.{all-at}
-use Rattle.checks.proofs.RefusalTable.{FailsWhere, refuses, serves, fails-unequal, fails-above, fails-from, fails-either, fails-somewhere, fails-no-degree}
+use Rattle.checks.proofs.RefusalTable.{FailsWhere, refuses, serves, fails-unequal, fails-above, fails-from, fails-either, fails-somewhere}
+use Rattle.checks.proofs.RefusalTable.{fails-no-degree}
 use Rattle.exponential.specs.Exponential.{polynomialEntry, entriesFrom, polynomial, isPolynomial}
 use Rattle.exponential.proofs.Table.{table-at, polynomial-of, is-polynomial}
 use Rattle.base_sample.specs.BaseSample.{threshold, wordsSmall, neverFalls, isCdt}
 use Rattle.challenge.specs.Challenge.{positionsBelow, ascends, arePositions, isChallenge}
 use Rattle.refusals.specs.Refusals.{openRefusal, drawRefusal, respondRefusal}
-use Rattle.refusals.specs.FirstRefusal.{NoCdt, NoPolynomial, TooMany, NoPositions, Outside, OpeningRefuses, DrawRefuses, RespondRefuses}
+use Rattle.refusals.specs.FirstRefusal.{NoCdt, NoPolynomial, TooMany, NoPositions, Outside, OpeningRefuses, DrawRefuses}
+use Rattle.refusals.specs.FirstRefusal.{RespondRefuses}
 
 -- ** The tests of single lines
 
@@ -61,7 +63,8 @@ fails-outside bound values = record {
   holds = λ e s. let h = within-at bound values e (s .place) in let g = s .there in omega arith;
 }
   where
-    by : (v : ℤ) (values : List ℤ) → (allWithin bound values ≡ false → Outside bound values) → (t : Bool) → leb (natAbs v) bound ≡ t → (t && allWithin bound values) ≡ false → Outside bound (v ∷ values)
+    by : (v : ℤ) (values : List ℤ) → (allWithin bound values ≡ false → Outside bound values) → (t : Bool) → leb (natAbs v) bound ≡ t
+        → (t && allWithin bound values) ≡ false → Outside bound (v ∷ values)
     by v values later true f e = let s = later e in record { place = suc (s .place); within = omega (arith, s .within); there = s .there }
     by v values later false f e = record { place = 0; within = omega arith; there = leb-false (natAbs v) bound f }
 
@@ -69,7 +72,8 @@ fails-outside bound values = record {
     somewhere [] e = absurd (false≢true (sym e))
     somewhere (v ∷ values) e = by v values (somewhere values) (leb (natAbs v) bound) refl e
 
-fails-no-challenge : (n : ℕ) (challenge : List ℕ) → FailsWhere (isChallenge n challenge) ((length challenge ≡ 0) ⊎ TooMany n (length challenge) ⊎ NoPositions n challenge)
+fails-no-challenge : (n : ℕ) (challenge : List ℕ)
+    → FailsWhere (isChallenge n challenge) ((length challenge ≡ 0) ⊎ TooMany n (length challenge) ⊎ NoPositions n challenge)
 unfolding isChallenge arePositions positionsBelow ascends
 fails-no-challenge n challenge =
     let count = length challenge in
@@ -88,7 +92,8 @@ pub opening-refuses : (n : ℕ) → OpeningRefuses n (openRefusal n)
 unfolding openRefusal
 opening-refuses n = refuses 1 [] (fails-no-degree n) (λ e. serves)
 
-pub draw-refuses : (n limit : ℕ) (cdt table : List ℕ) (words y list : ℕ) → DrawRefuses n limit cdt table words y list (drawRefusal n limit cdt table words y list)
+pub draw-refuses : (n limit : ℕ) (cdt table : List ℕ) (words y list : ℕ)
+    → DrawRefuses n limit cdt table words y list (drawRefusal n limit cdt table words y list)
 unfolding drawRefusal
 draw-refuses n limit cdt table words y list =
     refuses 1 _ (fails-no-degree n) (λ p1.

@@ -32,7 +32,8 @@ pub record DrawServed (n limit : ℕ) (cdt table : List ℕ) (words y list : ℕ
   pub words-enough : 4 * limit ≤ words
   pub list-enough : drawListLength limit ≤ list
 
-pub draw-served : (n limit : ℕ) (cdt table : List ℕ) (words y list : ℕ) → drawRefusal n limit cdt table words y list ≡ 0 → DrawServed n limit cdt table words y list
+pub draw-served : (n limit : ℕ) (cdt table : List ℕ) (words y list : ℕ) → drawRefusal n limit cdt table words y list ≡ 0
+    → DrawServed n limit cdt table words y list
 unfolding drawRefusal isCdt testOf numbered
 draw-served n limit cdt table words y list h =
     let p : (k : ℕ) → testOf k (drawTests n limit cdt table words y list) ≡ true = λ k. passes k _ refl h in
@@ -62,7 +63,8 @@ pub record RespondServed (n : ℕ) (drawn : Bool) (challenge table : List ℕ) (
   pub key-small : allWithin keyBound key ≡ true
   pub y-small : allWithin noiseBound y ≡ true
 
-pub respond-served : (n : ℕ) (drawn : Bool) (challenge table : List ℕ) (words : ℕ) (key y : List ℤ) (z list : ℕ) → respondRefusal n drawn challenge table words key y z list ≡ 0
+pub respond-served : (n : ℕ) (drawn : Bool) (challenge table : List ℕ) (words : ℕ) (key y : List ℤ) (z list : ℕ)
+    → respondRefusal n drawn challenge table words key y z list ≡ 0
     → RespondServed n drawn challenge table words key y z list
 unfolding respondRefusal testOf numbered
 respond-served n drawn challenge table words key y z list h =

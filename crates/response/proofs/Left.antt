@@ -31,7 +31,8 @@ judged-written n accepted challenge list =
 pub response-left : (n : ℕ) (accepted bit₁ : Bool) (challenge : List ℕ) (z : List ℤ) (list : List ℕ) (entries : ℕ) (y y₁ z₁ z₂ : List ℤ) (l₁ l₂ : List ℕ)
     → bit₁ ≡ accepted → entries ≡ respondListLength n (length challenge) → length y ≡ 2 * n → y₁ ≡ replicate (length y) (pos 0)
     → length z₁ ≡ 2 * n → z₁ ≡ z → z₂ ≡ cond bit₁ z₁ (replicate (length z₁) (pos 0))
-    → l₁ ≡ sets list 0 (entry 7 n ∷ (productEntries n challenge ++ placesUp 2 0 3)) → l₂ ≡ sets l₁ (1 + 2 * n * length challenge + 3) (acceptanceEntries bit₁)
+    → l₁ ≡ sets list 0 (entry 7 n ∷ (productEntries n challenge ++ placesUp 2 0 3))
+    → l₂ ≡ sets l₁ (1 + 2 * n * length challenge + 3) (acceptanceEntries bit₁)
     → record { answer = record { bit = bit₁; entries = entries }; y = y₁; z = z₂; list = l₂ } ≡ respondedBy n accepted challenge z list
 unfolding respondedBy
 response-left n accepted bit₁ challenge z list entries y y₁ z₁ z₂ l₁ l₂ eb ee ly ey lz ez ec e₁ e₂ =

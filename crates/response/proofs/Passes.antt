@@ -24,7 +24,8 @@ length-response g [] (c ∷ sc) h = h
 length-response g (v ∷ y) [] h = refl
 length-response g (v ∷ y) (c ∷ sc) h = ap suc (length-response g y sc (omega arith))
 
-pub response-at : (g : Bool) (y sc : List ℤ) (i : ℕ) → i < length y → i < length sc → getD (responseOf g y sc) i (pos 0) ≡ getD y i (pos 0) +ℤ cond g (negℤ (getD sc i (pos 0))) (getD sc i (pos 0))
+pub response-at : (g : Bool) (y sc : List ℤ) (i : ℕ) → i < length y → i < length sc
+    → getD (responseOf g y sc) i (pos 0) ≡ getD y i (pos 0) +ℤ cond g (negℤ (getD sc i (pos 0))) (getD sc i (pos 0))
 unfolding responseOf
 response-at g [] sc i h l = absurd (not-suc-le-zero h)
 response-at g (v ∷ y) [] i h l = absurd (not-suc-le-zero l)
@@ -35,7 +36,8 @@ abs-turned : (g : Bool) (c : ℤ) → natAbs (cond g (negℤ c) c) ≡ natAbs c
 abs-turned true c = abs-neg c
 abs-turned false c = refl
 
-pub response-within : (g : Bool) (y sc : List ℤ) → allWithin noiseBound y ≡ true → allWithin outputBound sc ≡ true → allWithin responseBound (responseOf g y sc) ≡ true
+pub response-within : (g : Bool) (y sc : List ℤ) → allWithin noiseBound y ≡ true → allWithin outputBound sc ≡ true
+    → allWithin responseBound (responseOf g y sc) ≡ true
 unfolding responseOf
 response-within g [] sc hy hs = within-none responseBound
 response-within g (v ∷ y) [] hy hs = within-none responseBound
@@ -75,8 +77,10 @@ module _ {whole sc z : List ℤ} {norm : ℕ} {inner : ℤ} {i : ℕ} (lengths :
         (set-at (take i whole) (getD sc i (pos 0)) (drop (suc i) sc) (getD whole i (pos 0)) i (length-take-le i whole (omega arith))
         ∙ sym (append-snoc (take i whole) (getD whole i (pos 0)) (drop (suc i) sc)))
 
-    pub add-more : {z′ : List ℤ} {norm′ : ℕ} {inner′ : ℤ} → natAbs (getD whole i (pos 0)) ≤ responseBound → natAbs (getD sc i (pos 0)) ≤ outputBound
-        → z′ ≡ set z i (getD whole i (pos 0)) → norm′ ≡ norm + natAbs (getD whole i (pos 0)) * natAbs (getD whole i (pos 0)) → inner′ ≡ inner +ℤ (getD whole i (pos 0) *ℤ getD sc i (pos 0))
+    pub add-more : {z′ : List ℤ} {norm′ : ℕ} {inner′ : ℤ} → natAbs (getD whole i (pos 0)) ≤ responseBound
+        → natAbs (getD sc i (pos 0)) ≤ outputBound
+        → z′ ≡ set z i (getD whole i (pos 0)) → norm′ ≡ norm + natAbs (getD whole i (pos 0)) * natAbs (getD whole i (pos 0))
+        → inner′ ≡ inner +ℤ (getD whole i (pos 0) *ℤ getD sc i (pos 0))
         → Added whole sc z′ norm′ inner′ (i + 1)
     unfolding squareSum innerProduct
     add-more hw hs ez en ei =
@@ -101,8 +105,10 @@ module _ {whole sc z : List ℤ} {norm : ℕ} {inner : ℤ} {i : ℕ} (lengths :
       let none′ : drop i sc ≡ [] = rw (all ∙ lengths) (drop-length sc) in
       ((omega (arith, rw none at (s .norm-is)), sym (+ℤ-idr inner) ∙ (rw none at (s .inner-is))), s .mixed ∙ rw (take-all i whole (omega arith), none′) (append-nil whole))
 
-pub norm-bound : (g : Bool) (y sc : List ℤ) → length y ≡ length sc → allWithin noiseBound y ≡ true → allWithin outputBound sc ≡ true → squareSum (responseOf g y sc) ≤ 10647169 * length sc
+pub norm-bound : (g : Bool) (y sc : List ℤ) → length y ≡ length sc → allWithin noiseBound y ≡ true → allWithin outputBound sc ≡ true
+    → squareSum (responseOf g y sc) ≤ 10647169 * length sc
 norm-bound g y sc l hy hs = omega (arith, squares-within responseBound (responseOf g y sc) (response-within g y sc hy hs), length-response g y sc l)
 
-pub inner-bound : (g : Bool) (y sc : List ℤ) → allWithin noiseBound y ≡ true → allWithin outputBound sc ≡ true → natAbs (innerProduct (responseOf g y sc) sc) ≤ 1461824 * length sc
+pub inner-bound : (g : Bool) (y sc : List ℤ) → allWithin noiseBound y ≡ true → allWithin outputBound sc ≡ true
+    → natAbs (innerProduct (responseOf g y sc) sc) ≤ 1461824 * length sc
 inner-bound g y sc hy hs = omega (arith, inner-within responseBound outputBound (responseOf g y sc) sc (response-within g y sc hy hs) hs)

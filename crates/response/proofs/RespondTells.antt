@@ -25,7 +25,8 @@ length-testEntries : (accepted : Bool) → length (testEntries accepted) ≡ 46
 unfolding testEntries acceptanceEntries placesUp placesDown
 length-testEntries accepted = refl
 
-pub length-respondEntries : (n : ℕ) (accepted : Bool) (challenge : List ℕ) → length (respondEntries n accepted challenge) ≡ 2 * n * length challenge + 47
+pub length-respondEntries : (n : ℕ) (accepted : Bool) (challenge : List ℕ)
+    → length (respondEntries n accepted challenge) ≡ 2 * n * length challenge + 47
 unfolding respondEntries testEntries
 length-respondEntries n accepted challenge =
     omega (arith, length-append (productEntries n challenge) (testEntries accepted), length-productEntries n challenge, length-testEntries accepted)
@@ -40,7 +41,8 @@ test-entries-tell b b′ rest rest′ h =
     (bit-injective b b′ (omega arith), parts .1)
 
 -- at one degree; the entries of the product end where the entry of the first word stands
-after-degree-tells : (n : ℕ) (b b′ : Bool) (challenge challenge′ rest rest′ : List ℕ) → 1 ≤ n → positionsBelow n challenge ≡ true → positionsBelow n challenge′ ≡ true
+after-degree-tells : (n : ℕ) (b b′ : Bool) (challenge challenge′ rest rest′ : List ℕ) → 1 ≤ n → positionsBelow n challenge ≡ true
+    → positionsBelow n challenge′ ≡ true
     → (productEntries n challenge ++ testEntries b) ++ rest ≡ (productEntries n challenge′ ++ testEntries b′) ++ rest′
     → (b ≡ b′) × (challenge ≡ challenge′) × (rest ≡ rest′)
 unfolding testEntries placesUp
@@ -51,7 +53,8 @@ after-degree-tells n b b′ challenge challenge′ rest rest′ h below below′
     let tested = test-entries-tell b b′ rest rest′ (parts .1) in
     (tested .0, product-tells n challenge challenge′ h below below′ (parts .0), tested .1)
 
-pub respond-tells : (n m : ℕ) (b b′ : Bool) (challenge challenge′ rest rest′ : List ℕ) → 1 ≤ n → positionsBelow n challenge ≡ true → positionsBelow m challenge′ ≡ true
+pub respond-tells : (n m : ℕ) (b b′ : Bool) (challenge challenge′ rest rest′ : List ℕ) → 1 ≤ n → positionsBelow n challenge ≡ true
+    → positionsBelow m challenge′ ≡ true
     → respondEntries n b challenge ++ rest ≡ respondEntries m b′ challenge′ ++ rest′
     → (n ≡ m) × (b ≡ b′) × (challenge ≡ challenge′) × (rest ≡ rest′)
 unfolding respondEntries testEntries

@@ -45,7 +45,8 @@ exp-over : (table : List ℕ) → table ≡ polynomial → expWith table divisor
 unfolding exp
 exp-over table h = rw h
 
-bits-stop : (s : Session) (d : Draw) → d .polynomial ≡ polynomial → Stops (bitAt exp (d .cdt) (d .words)) 0 (d .limit) (2 * s .degree) (bitsOfDraw s d)
+bits-stop : (s : Session) (d : Draw) → d .polynomial ≡ polynomial
+    → Stops (bitAt exp (d .cdt) (d .words)) 0 (d .limit) (2 * s .degree) (bitsOfDraw s d)
 unfolding bitsOfDraw
 bits-stop s d h = rw (exp-over (d .polynomial) h) (draw-stops exp (d .cdt) (d .words) (d .limit) (2 * s .degree))
 

@@ -7,7 +7,8 @@ use Rattle.sampler.specs.Draw.{accepted, drawY, sampledBy}
 use Rattle.response.specs.Response.{respondedBy}
 use Rattle.response.proofs.RespondTells.{length-respondEntries}
 use Rattle.refusals.specs.Refusals.{openRefusal}
-use Rattle.session.specs.Calls.{opened, bitsOfDraw, drawRefused, drawServed, drawLeft, bitOfRespond, respondRefused, respondServed, respondLeft}
+use Rattle.session.specs.Calls.{opened, bitsOfDraw, drawRefused, drawServed, drawLeft, bitOfRespond, respondRefused, respondServed}
+use Rattle.session.specs.Calls.{respondLeft}
 use Rattle.session.specs.CallLaws.{OpeningIsFresh, DrawCountsEntries, DrawKeepsDegree, RefusedDrawTouchesNothing, ServedDrawSetsDrawn}
 use Rattle.session.specs.CallLaws.{RespondCountsEntries, RespondKeepsDegree, RefusedRespondTouchesNothing, ServedRespondSpendsNoise}
 use Rattle.session.proofs.Calls.{by-refusal, draw-left, draw-entries-few, draw-wrote, respond-left, respond-wrote}

@@ -18,7 +18,8 @@ use Rattle.response.proofs.RespondTells.{length-respondEntries}
 use Rattle.refusals.proofs.Served.{DrawServed, draw-served, RespondServed, respond-served}
 use Rattle.session.specs.declared.Session.{Session}
 use Rattle.session.specs.Calls.{Draw, DrawLeft, refusalOfDraw, bitsOfDraw, drawRefused, drawServed, drawLeft}
-use Rattle.session.specs.Calls.{Respond, RespondLeft, refusalOfRespond, bitOfRespond, zOfRespond, respondRefused, respondServed, respondLeft}
+use Rattle.session.specs.Calls.{Respond, RespondLeft, refusalOfRespond, bitOfRespond, zOfRespond, respondRefused, respondServed}
+use Rattle.session.specs.Calls.{respondLeft}
 
 -- ** Served or refused
 
@@ -99,7 +100,8 @@ pub draw-entries-few : (s : Session) (d : Draw) → length (drawEntries (s .degr
 unfolding bitsOfDraw
 draw-entries-few s d = draw-entries-at-most _ (d .cdt) (d .words) (s .degree) (d .limit) (2 * s .degree)
 
-pub draw-fits : (s : Session) (d : Draw) → drawLeft s d .drawn .answer .refusal ≡ 0 → length (drawEntries (s .degree) (bitsOfDraw s d)) ≤ length (d .list)
+pub draw-fits : (s : Session) (d : Draw) → drawLeft s d .drawn .answer .refusal ≡ 0
+    → length (drawEntries (s .degree) (bitsOfDraw s d)) ≤ length (d .list)
 draw-fits s d h = le-trans (draw-entries-few s d) (draw-passed s d h .list-enough)
 
 pub draw-wrote : (s : Session) (d : Draw) → let left = drawLeft s d in

@@ -11,7 +11,8 @@ use Rattle.attempt.proofs.attempt_words.Statement.{statement}
 use Rattle.attempt.proofs.attempt_words.Tie as tie
 
 -- four entries, one after the other
-four : (l l₁ l₂ l₃ l₄ : List ℕ) (at place : ℕ) → l₁ ≡ set l at (entry 2 place) → l₂ ≡ set l₁ (at + 1) (entry 2 (place + 1)) → l₃ ≡ set l₂ (at + 2) (entry 2 (place + 2)) → l₄ ≡ set l₃ (at + 3) (entry 2 (place + 3))
+four : (l l₁ l₂ l₃ l₄ : List ℕ) (at place : ℕ) → l₁ ≡ set l at (entry 2 place) → l₂ ≡ set l₁ (at + 1) (entry 2 (place + 1))
+    → l₃ ≡ set l₂ (at + 2) (entry 2 (place + 2)) → l₄ ≡ set l₃ (at + 3) (entry 2 (place + 3))
     → l₄ ≡ sets l at (placesUp 2 place 4)
 unfolding placesUp
 four l l₁ l₂ l₃ l₄ at place e₁ e₂ e₃ e₄ = placesUp-more 2 place 3 l at (placesUp-more 2 place 2 l at (placesUp-more 2 place 1 l at e₁ e₂ refl refl) e₃ refl refl) e₄ refl refl

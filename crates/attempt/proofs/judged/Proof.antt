@@ -82,4 +82,5 @@ returns c =
 pub judged-spec : {M : Type 1} → statement M
 judged-spec =
     tie.close
-    (tie.spec mul-size low8-requires add-size bit8-requires cast-times-sign sign-of-requires times-sign-requires mul-sample slice-set-from-sample low62-requires same-length returns)
+    (tie.spec mul-size low8-requires add-size bit8-requires cast-times-sign sign-of-requires times-sign-requires mul-sample
+    slice-set-from-sample low62-requires same-length returns)

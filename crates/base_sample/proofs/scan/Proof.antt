@@ -142,4 +142,5 @@ returns c =
 pub scan-spec : {M : Type 1} → statement M
 scan-spec =
     tie.close
-    (tie.spec Inv-loop μ-loop loop-holds mul-place add-here listed-word-requires add-listed-word add-listed-word-2 listed-word-requires-2 add-x less62-requires sub-x add-i loop-less loop-again same-length returns)
+    (tie.spec Inv-loop μ-loop loop-holds mul-place add-here listed-word-requires add-listed-word add-listed-word-2 listed-word-requires-2
+    add-x less62-requires sub-x add-i loop-less loop-again same-length returns)

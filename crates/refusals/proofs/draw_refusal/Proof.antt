@@ -182,4 +182,5 @@ returns-8 c = sym (goes-on (from-8 (c .before)) (le-leb _ _ (c .if7 .left)) .tol
 pub draw-refusal-spec : {M : Type 1} → statement M
 draw-refusal-spec =
     tie.close
-    (tie.spec is-degree-requires returns mul-if2 returns-2 is-cdt-requires is-polynomial-requires returns-3 returns-4 mul-if5 mul-if5-2 returns-5 mul-if6 returns-6 mul-if7 add-if7 returns-7 returns-8)
+    (tie.spec is-degree-requires returns mul-if2 returns-2 is-cdt-requires is-polynomial-requires returns-3 returns-4 mul-if5 mul-if5-2
+    returns-5 mul-if6 returns-6 mul-if7 add-if7 returns-7 returns-8)

@@ -185,4 +185,5 @@ returns-7 c = c .noise-refusal .ensures ∙ sym (from-9 (c .before) .told)
 pub respond-refusal-spec : {M : Type 1} → statement M
 respond-refusal-spec =
     tie.close
-    (tie.spec is-degree-requires returns mul-both returns-2 is-polynomial-requires returns-3 is-challenge-requires returns-4 returns-5 mul-list-short add-list-short returns-6 noise-refusal-requires returns-7)
+    (tie.spec is-degree-requires returns mul-both returns-2 is-polynomial-requires returns-3 is-challenge-requires returns-4 returns-5
+    mul-list-short add-list-short returns-6 noise-refusal-requires returns-7)

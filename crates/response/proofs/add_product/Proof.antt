@@ -14,7 +14,8 @@ use Rattle.signed.proofs.Signs.{read-back, times-sign}
 use Rattle.signed.proofs.Vectors.{within-at}
 use Rattle.challenge_product.specs.Product.{outputBound}
 use Rattle.response.specs.Response.{noiseBound, responseBound, subtracts, responseOf}
-use Rattle.response.proofs.Passes.{length-response, response-at, response-within, norm-bound, Added, add-start, product-stands, norm-within, add-more, add-end}
+use Rattle.response.proofs.Passes.{length-response, response-at, response-within, norm-bound, Added, add-start, product-stands}
+use Rattle.response.proofs.Passes.{norm-within, add-more, add-end}
 use Rattle.response.proofs.add_product.Statement.{statement}
 use Rattle.response.proofs.add_product.Tie as tie
 
@@ -79,7 +80,8 @@ y-read : (c : tie.After-response-at-arg Inv-loop μ-loop) → let l = c .before 
     toZ w32 (ofZ w32 y) ≡ y
 y-read c = read-back (record { sfits = c .response-at-arg .given })
 
-sign-read : (c : tie.After-sign-of Inv-loop μ-loop) → toZ w32 (ofZ w32 (c .sign-of .result)) ≡ sign (subtracts (c .before .before .args .word))
+sign-read : (c : tie.After-sign-of Inv-loop μ-loop)
+    → toZ w32 (ofZ w32 (c .sign-of .result)) ≡ sign (subtracts (c .before .before .args .word))
 sign-read c = read-back (record { sfits = c .sign-of .ok }) ∙ c .sign-of .ensures .0 ∙ ap (λ (b : ℕ). sign (eqb b 1)) (c .before .bit0 .ensures)
 
 response-at-requires : tie.Need-response-at-requires Inv-loop μ-loop

@@ -85,12 +85,14 @@ inner-fits c = fits-of-abs (omega (arith, inner-small c))
 
 measures : (y sc z : List ℤ) (first second third : ℕ) (words : List ℕ) (squares norm : ℕ) (inner : ℤ)
     → z ≡ sc → first ≡ getD words 0 0 → second ≡ getD words 1 0 → third ≡ getD words 2 0
-    → squares ≡ squareSum sc → norm ≡ squareSum (responseOf (subtracts first) y z) → inner ≡ innerProduct (responseOf (subtracts first) y z) z
+    → squares ≡ squareSum sc → norm ≡ squareSum (responseOf (subtracts first) y z)
+    → inner ≡ innerProduct (responseOf (subtracts first) y z) z
     → record { squares = squares; norm = norm; inner = inner; second = second; third = third } ≡ measuresOf y sc words
 unfolding measuresOf responseZ
 measures y sc z first second third words squares norm inner ez e₀ e₁ e₂ es en ei = rw (es, en, ei, ez, e₀, e₁, e₂)
 
-response : (y sc z : List ℤ) (first : ℕ) (words : List ℕ) → z ≡ sc → first ≡ getD words 0 0 → responseOf (subtracts first) y z ≡ responseZ y sc words
+response : (y sc z : List ℤ) (first : ℕ) (words : List ℕ) → z ≡ sc → first ≡ getD words 0 0
+    → responseOf (subtracts first) y z ≡ responseZ y sc words
 unfolding responseZ
 response y sc z first words ez e₀ = rw (ez, e₀)
 
@@ -125,4 +127,5 @@ returns c =
 pub measured-spec : {M : Type 1} → statement M
 measured-spec =
     tie.close
-    (tie.spec note-requires product-listed-requires mul-at mul-at-2 add-at response-words-requires add-product-requires same-length same-length-2 returns)
+    (tie.spec note-requires product-listed-requires mul-at mul-at-2 add-at response-words-requires add-product-requires same-length
+    same-length-2 returns)

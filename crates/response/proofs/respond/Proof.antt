@@ -113,4 +113,5 @@ returns c =
 pub respond-spec : {M : Type 1} → statement M
 respond-spec =
     tie.close
-    (tie.spec measured-requires mul-at mul-at-2 add-at add-at-2 judged-requires keep-all-requires zero-all-requires add-entries same-length same-length-2 same-length-3 returns)
+    (tie.spec measured-requires mul-at mul-at-2 add-at add-at-2 judged-requires keep-all-requires zero-all-requires add-entries same-length
+    same-length-2 same-length-3 returns)

@@ -11,7 +11,8 @@ use Rattle.exponential.proofs.Table.{by-215}
 use Rattle.sampler.specs.Draw.{drawBits, Sampled, sampledBy}
 use Rattle.session.specs.declared.Session.{Session}
 use Rattle.session.specs.declared.Drawn.{Drawn}
-use Rattle.session.specs.Calls.{Draw, drawOf, afterDraw, refusalOfDraw, bitsOfDraw, drawnRefused, drawnServed, drawRefused, drawServed, drawLeft}
+use Rattle.session.specs.Calls.{Draw, drawOf, afterDraw, refusalOfDraw, bitsOfDraw, drawnRefused, drawnServed, drawRefused}
+use Rattle.session.specs.Calls.{drawServed, drawLeft}
 use Rattle.session.proofs.Calls.{DrawPassed, draw-left, draw-passed}
 use Rattle.session.proofs.Session.draw.Statement.{statement}
 use Rattle.session.proofs.Session.draw.Tie as tie
@@ -82,7 +83,8 @@ same-length-2 c = search needs
 drawn-served-requires : tie.Need-drawn-served-requires
 drawn-served-requires c κs = degree-range _ (passed (not-refused (sampled c .before)) .degree) .1
 
-sampled-leaves : (s : Session) (d : Draw) (sampled : Sampled) (drawn : Drawn) → refusalOfDraw s d ≡ 0 → drawn ≡ drawnServed s (sampled .counts)
+sampled-leaves : (s : Session) (d : Draw) (sampled : Sampled) (drawn : Drawn) → refusalOfDraw s d ≡ 0
+    → drawn ≡ drawnServed s (sampled .counts)
     → sampled ≡ sampledBy (s .degree) (d .cdt) (d .words)
     (drawBits (expScaled (d .polynomial) 3269134179596076729) (d .cdt) (d .words) (d .limit) (2 * s .degree)) (d .list)
     → afterDraw drawn (sampled .y) (sampled .list) ≡ drawLeft s d

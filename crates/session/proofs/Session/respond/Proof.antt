@@ -109,4 +109,5 @@ returns-2 c =
 pub respond-spec : {M : Type 1} → statement M
 respond-spec =
     tie.close
-    (tie.spec respond-refusal-requires responded-refused-requires same-length returns respond-requires responded-served-requires same-length-2 same-length-3 same-length-4 returns-2)
+    (tie.spec respond-refusal-requires responded-refused-requires same-length returns respond-requires responded-served-requires
+    same-length-2 same-length-3 same-length-4 returns-2)
