@@ -9,7 +9,8 @@ use lib.IntN.{ℤ}
 use lib.ListN.{take}
 use Rattle.session.specs.declared.Session.{Session}
 use Rattle.session.specs.Calls.{Draw, drawOf, DrawLeft, bitsOfDraw, drawLeft, Respond, respondOf, RespondLeft, respondLeft}
-use Rattle.histories.specs.Histories.{Call, draw, respond, leftBy, refusalIn, nextIn, yIn, Linked, readList, drew, answered, history}
+use Rattle.histories.specs.Histories.{Call, draw, respond, leftBy, refusalIn, nextIn, yIn}
+use Rattle.histories.specs.Histories.{Linked, readList, drew, answered, history}
 use Rattle.histories.specs.Demand3.{sampled, answer, seen}
 
 -- ** Any calls can be linked

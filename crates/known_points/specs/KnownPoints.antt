@@ -86,7 +86,8 @@ pub record KnownPoints : Type 0 where
       → bitAt e cdt (four word₀ word₁ 0 word₃) 0 ≡ true
   -- n = 4, s1 = 1, 2, 3, 4: challenge 1 gives -4, 1, 2, 3; challenge 0, 3 gives -1, -1, -1, 5; whatever s2 is
   pub challenge-1 : (s2 : List ℤ) → take 4 (product (oneToFour ++ s2) 4 (1 ∷ [])) ≡ negsuc 3 ∷ pos 1 ∷ pos 2 ∷ pos 3 ∷ []
-  pub challenge-0-3 : (s2 : List ℤ) → take 4 (product (oneToFour ++ s2) 4 (0 ∷ 3 ∷ [])) ≡ negsuc 0 ∷ negsuc 0 ∷ negsuc 0 ∷ pos 5 ∷ []
+  pub challenge-0-3 : (s2 : List ℤ) → take 4 (product (oneToFour ++ s2) 4 (0 ∷ 3 ∷ []))
+      ≡ negsuc 0 ∷ negsuc 0 ∷ negsuc 0 ∷ pos 5 ∷ []
   -- e = 2 ^ 62 in the cosh test passes every word 2; e = 0 passes none
   pub cosh-at-one : (word₂ : ℕ) → coshPasses (2 ^ 62) word₂ ≡ true
   pub cosh-at-zero : (word₂ : ℕ) → coshPasses 0 word₂ ≡ false
@@ -96,7 +97,8 @@ pub record KnownPoints : Type 0 where
   pub even-is-cdt : isCdt evenThresholds ≡ true
   pub one-high-is-cdt : isCdt oneHigh ≡ true
   -- the top two bits of the words 0 and 1 do not count
-  pub d-below-by-62-bits : (top₀ top₁ : ℕ) → baseSampleBy evenThresholds (top₀ * 2 ^ 62 + (2 ^ 40 - 1)) (top₁ * 2 ^ 62 + (2 ^ 62 - 1)) ≡ 0
+  pub d-below-by-62-bits : (top₀ top₁ : ℕ)
+      → baseSampleBy evenThresholds (top₀ * 2 ^ 62 + (2 ^ 40 - 1)) (top₁ * 2 ^ 62 + (2 ^ 62 - 1)) ≡ 0
   pub d-at-by-62-bits : (top₀ top₁ : ℕ) → baseSampleBy evenThresholds (top₀ * 2 ^ 62 + 2 ^ 40) (top₁ * 2 ^ 62) ≡ 1
   -- where high words are equal the low words decide: just below, at and just above threshold 3
   pub low-below : baseSampleBy oneHigh 7 (3 * 2 ^ 40 - 1) ≡ 2
@@ -151,9 +153,11 @@ pub record KnownPoints : Type 0 where
   -- g is bit 0 of word 0, and its other bits do not count: z = y + Sc where it is 0, else y - Sc
   pub g-0 : (rest : ℕ) → subtracts (2 * rest) ≡ false
   pub g-1 : (rest : ℕ) → subtracts (2 * rest + 1) ≡ true
-  pub z-plus : (rest word₁ word₂ : ℕ) → responseZ (pos 10 ∷ pos 2 ∷ []) (pos 3 ∷ negsuc 4 ∷ []) (three (2 * rest) word₁ word₂)
+  pub z-plus : (rest word₁ word₂ : ℕ)
+      → responseZ (pos 10 ∷ pos 2 ∷ []) (pos 3 ∷ negsuc 4 ∷ []) (three (2 * rest) word₁ word₂)
       ≡ pos 13 ∷ negsuc 2 ∷ []
-  pub z-minus : (rest word₁ word₂ : ℕ) → responseZ (pos 10 ∷ pos 2 ∷ []) (pos 3 ∷ negsuc 4 ∷ []) (three (2 * rest + 1) word₁ word₂)
+  pub z-minus : (rest word₁ word₂ : ℕ)
+      → responseZ (pos 10 ∷ pos 2 ∷ []) (pos 3 ∷ negsuc 4 ∷ []) (three (2 * rest + 1) word₁ word₂)
       ≡ pos 7 ∷ pos 7 ∷ []
   -- A = 46,225 may pass: N1 is 0, and every word 1 passes; z = 0, so that I is 0, and every word 2 passes
   pub largest-a : (word₁ word₂ : ℕ) → bitOver (negsuc 214) (pos 215) (three 0 word₁ word₂) ≡ true
@@ -162,7 +166,8 @@ pub record KnownPoints : Type 0 where
   -- Z = 165,688,384 may pass: it is 64 * 1,609 ^ 2
   pub largest-z : (word₂ : ℕ) → responseBit e (replicate 64 (pos 1609)) (replicate 64 (pos 0)) (three 0 0 word₂) ≡ true
   -- a larger one never
-  pub larger-z : (y sc : List ℤ) (words : List ℕ) → 165688384 < squareSum (responseZ y sc words) → responseBit e y sc words ≡ false
+  pub larger-z : (y sc : List ℤ) (words : List ℕ) → 165688384 < squareSum (responseZ y sc words)
+      → responseBit e y sc words ≡ false
   -- word 1 = e(N1) - 1 passes and e(N1) does not, whatever its top two bits are: A = 0, N1 = 46,225; I = 0
   pub word-1-below : (top word₂ : ℕ) → bitOver (pos 5) (pos 0) (three 0 (top * 2 ^ 62 + 2797128963144291333) word₂) ≡ true
   pub word-1-at : (top word₂ : ℕ) → bitOver (pos 5) (pos 0) (three 0 (top * 2 ^ 62 + 2797128963144291334) word₂) ≡ false
@@ -170,7 +175,8 @@ pub record KnownPoints : Type 0 where
   pub word-2-below : (top word₁ : ℕ) → bitOver (pos 0) (pos 215) (three 0 word₁ (top * 2 ^ 62 + 2988622833037856500)) ≡ true
   pub word-2-above : (top word₁ : ℕ) → bitOver (pos 0) (pos 215) (three 0 word₁ (top * 2 ^ 62 + 2988622833037856501)) ≡ false
   pub word-2-below-minus : (top word₁ : ℕ) → bitOver (pos 0) (pos 215) (three 1 word₁ (top * 2 ^ 62 + 2988622833037856500)) ≡ true
-  pub word-2-above-minus : (top word₁ : ℕ) → bitOver (pos 0) (pos 215) (three 1 word₁ (top * 2 ^ 62 + 2988622833037856501)) ≡ false
+  pub word-2-above-minus : (top word₁ : ℕ)
+      → bitOver (pos 0) (pos 215) (three 1 word₁ (top * 2 ^ 62 + 2988622833037856501)) ≡ false
   -- the cosh test at its edge: both sides have the same high word, and their low words decide
   pub cosh-low-below : coshPasses (e 92450) 2988622833037856500 ≡ true
   pub cosh-low-above : coshPasses (e 92450) 2988622833037856501 ≡ false

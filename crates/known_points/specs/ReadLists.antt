@@ -12,15 +12,15 @@ use Rattle.response.specs.Response.{respondEntries}
 abbrev pub scanReads : List ℕ
 scanReads =
     entry 3 0 ∷ entry 3 1 ∷ entry 3 2 ∷ entry 3 3 ∷ entry 3 4 ∷ entry 3 5 ∷ entry 3 6 ∷ entry 3 7 ∷ entry 3 8 ∷ entry 3 9
-    ∷ entry 3 10 ∷ entry 3 11 ∷ entry 3 12 ∷ entry 3 13 ∷ entry 3 14 ∷ entry 3 15 ∷ entry 3 16 ∷ entry 3 17 ∷ entry 3 18 ∷ entry 3 19
-    ∷ []
+    ∷ entry 3 10 ∷ entry 3 11 ∷ entry 3 12 ∷ entry 3 13 ∷ entry 3 14 ∷ entry 3 15 ∷ entry 3 16 ∷ entry 3 17
+    ∷ entry 3 18 ∷ entry 3 19 ∷ []
 
 -- the reads of an exponential: all words of the polynomial table, from the last
 abbrev pub exponentialReads : List ℕ
 exponentialReads =
-    entry 4 20 ∷ entry 4 19 ∷ entry 4 18 ∷ entry 4 17 ∷ entry 4 16 ∷ entry 4 15 ∷ entry 4 14 ∷ entry 4 13 ∷ entry 4 12 ∷ entry 4 11
-    ∷ entry 4 10 ∷ entry 4 9 ∷ entry 4 8 ∷ entry 4 7 ∷ entry 4 6 ∷ entry 4 5 ∷ entry 4 4 ∷ entry 4 3 ∷ entry 4 2 ∷ entry 4 1 ∷ entry 4 0
-    ∷ []
+    entry 4 20 ∷ entry 4 19 ∷ entry 4 18 ∷ entry 4 17 ∷ entry 4 16 ∷ entry 4 15 ∷ entry 4 14 ∷ entry 4 13
+    ∷ entry 4 12 ∷ entry 4 11 ∷ entry 4 10 ∷ entry 4 9 ∷ entry 4 8 ∷ entry 4 7 ∷ entry 4 6 ∷ entry 4 5
+    ∷ entry 4 4 ∷ entry 4 3 ∷ entry 4 2 ∷ entry 4 1 ∷ entry 4 0 ∷ []
 
 pub record ReadLists : Type 0 where
   -- the filled part, up to the count; over the list's length it is empty
@@ -33,7 +33,8 @@ pub record ReadLists : Type 0 where
   -- ** Draws
   -- of one attempt, which is accepted
   pub draw-list : drawEntries 4 (true ∷ [])
-      ≡ entry 1 4 ∷ entry 2 0 ∷ entry 2 1 ∷ entry 2 2 ∷ entry 2 3 ∷ scanReads ++ exponentialReads ++ entry 5 0 ∷ entry 6 1 ∷ []
+      ≡ entry 1 4 ∷ entry 2 0 ∷ entry 2 1 ∷ entry 2 2 ∷ entry 2 3
+      ∷ scanReads ++ exponentialReads ++ entry 5 0 ∷ entry 6 1 ∷ []
   -- the words of a second attempt, and the end of its list
   pub second-words : take 5 (drop 47 (drawEntries 4 (true ∷ false ∷ [])))
       ≡ entry 2 4 ∷ entry 2 5 ∷ entry 2 6 ∷ entry 2 7 ∷ entry 3 0 ∷ []
