@@ -1,7 +1,7 @@
 -- Document 01 on the exponential, in numbers: the polynomial table, the divisor, and refusal 12. Assumes nothing.
 use mathlib.Core.Path.{_≡_}
 use mathlib.Core.List.{[], _∷_}
-use Prim.Native.Nat.{ℕ, _+_, _*_, _^_}
+use Prim.Native.Nat.{_+_, _*_, _^_}
 use lib.ListN.{length}
 use Rattle.exponential.specs.Exponential.{polynomialEntry, polynomial, divisor, expOrRefusal}
 

@@ -1,6 +1,6 @@
 -- An entry taken apart. Assumes nothing.
 use mathlib.Core.Path.{_≡_, refl}
-use Prim.Native.Nat.{ℕ, _-_, _^_, _<_}
+use Prim.Native.Nat.{ℕ, _^_, _<_}
 use lib.Arith.{digits-div, digits-mod}
 use Rattle.read_list.specs.Entries.{entry, kindOf, placeOf, EntryIs}
 

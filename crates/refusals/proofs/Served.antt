@@ -1,6 +1,6 @@
 -- What is known of a call that is not refused. Assumes nothing.
 use mathlib.Core.Path.{_≡_, refl}
-use mathlib.Core.Bool.{Bool, true, _&&_}
+use mathlib.Core.Bool.{Bool, true}
 use mathlib.Core.List.{List}
 use Prim.Native.Nat.{ℕ, _*_, _≤_}
 use lib.Dec.{leb, eqb}
@@ -11,10 +11,9 @@ use Rattle.signed.specs.Vectors.{allWithin}
 use Rattle.checks.specs.Checks.{isDegree}
 use Rattle.checks.proofs.JoinedTests.{both-true}
 use Rattle.checks.proofs.Lines.{numbered, testOf, passes}
-use Rattle.exponential.specs.Exponential.{polynomial, isPolynomial}
+use Rattle.exponential.specs.Exponential.{polynomial}
 use Rattle.exponential.proofs.Table.{polynomial-of}
 use Rattle.base_sample.specs.BaseSample.{wordsSmall, neverFalls, isCdt}
-use Rattle.challenge.specs.Challenge.{isChallenge}
 use Rattle.challenge.proofs.Positions.{Challenge, challenge-of}
 use Rattle.challenge_product.specs.Product.{keyBound}
 use Rattle.sampler.specs.Draw.{drawListLength}
