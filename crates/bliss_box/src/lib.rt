@@ -4,10 +4,19 @@ ghost use lib.ListN.{length};
 ghost use Rattle.read_list.specs.Entries.{filledPart};
 ghost use Rattle.exponential.specs.Exponential.{expOrRefusal};
 ghost use Rattle.session.specs.Calls.{opened, drawOf, afterDraw, drawLeft, respondOf, afterRespond, respondLeft};
+ghost use Rattle.bliss_box.specs.Version.{version};
 use session::Drawn;
 use session::Opened;
 use session::Responded;
 use session::Session;
+
+// The version of these functions and of the structs that they take and give. A host built for another one must not call the rest.
+#[no_mangle]
+pub extern "C" fn bliss_version() -> u32
+    ensures { λ r. ⌜ r ≡ version ⌝ }
+{
+    200
+}
 
 // Opens a session of degree n.
 #[no_mangle]
