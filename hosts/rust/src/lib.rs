@@ -3,7 +3,7 @@
 //! after its checks. Document 01 is the definition of the box; docs/SPECIFICATION.md has its rules, and what is listed.
 //!
 //! ```
-//! use bliss_box::{draw_limit, word_count, Secret, Session, CDT, POLYNOMIAL, RESPOND_WORDS};
+//! use bliss_box::{draw_limit, draw_word_count, OwnedDraw, Secret, Session, CDT, POLYNOMIAL, RESPOND_WORDS};
 //!
 //! // Making keys and challenges is the host's. A key is s1 and then s2, a challenge its positions in ascending order.
 //! let key = Secret::from(vec![1; 1024]);
@@ -12,31 +12,34 @@
 //!
 //! let mut session = Session::open(512)?;
 //! let z = loop {
-//!     let words = Secret::system_words(word_count(limit))?;
-//!     let drawn = session.draw_owned(limit, &CDT, &POLYNOMIAL, words);
-//!     drawn.answer?;
-//!     session = drawn.session;
-//!     if !session.is_drawn() {
-//!         continue; // spent: all but never
-//!     }
+//!     let words = Secret::system_words(draw_word_count(limit))?;
+//!     let noise = match session.draw_owned(limit, &CDT, &POLYNOMIAL, words)? {
+//!         OwnedDraw::Full(noise) => noise,
+//!         OwnedDraw::Spent(spent) => {
+//!             session = spent.session; // all but never
+//!             continue;
+//!         }
+//!     };
+//!     // In a signature the challenge hashes the message and what `noise.samples()` commits to.
 //!     let words = Secret::system_words(RESPOND_WORDS)?;
-//!     let responded = session.respond_owned(&challenge, &POLYNOMIAL, words, &key, drawn.y);
-//!     session = responded.session;
-//!     if responded.answer?.bit {
-//!         break responded.z;
+//!     let responded = noise.respond(&challenge, &POLYNOMIAL, words, &key)?;
+//!     if let Some(z) = responded.z {
+//!         break z;
 //!     }
-//!     // Rejected: in a signature the next try has another challenge too.
+//!     session = responded.session; // rejected: the next try has new noise, and so another challenge
 //! };
 //! assert_eq!(z.len(), 1024);
 //! # Ok::<(), Box<dyn std::error::Error>>(())
 //! ```
 //!
-//! [`Session::draw`] and [`Session::respond`] use memory that the host lends; [`Session::draw_owned`] and [`Session::respond_owned`] take
-//! words and noise by value, so that none is used twice, and wipe them.
+//! [`Session::draw_owned`] and [`Noise::respond`] take words and noise by value, so that none is used twice, wipe them, and look for
+//! faults in what a call left ([`Fault`]). [`Session::draw`] and [`Session::respond`] use memory that the host lends, and leave this to
+//! the host: [`Counts::check`] and [`Outcome::check`] look for the same faults.
 //!
 //! The archive is linked from the repository's `target/staticlib`, where `rt staticlib bliss_box` writes it, or from the folder
 //! that the environment variable `BLISS_BOX_LIB_DIR` names when the crate is built.
 
+mod fault;
 mod owned;
 pub mod raw;
 mod read_list;
@@ -44,11 +47,12 @@ mod refusal;
 mod secret;
 mod tables;
 
-pub use owned::{OwnedDraw, OwnedResponse};
+pub use fault::Fault;
+pub use owned::{CallError, Noise, OwnedDraw, OwnedResponse, Spent};
 pub use read_list::{Entry, Kind};
 pub use refusal::Refusal;
 pub use secret::Secret;
-pub use tables::{challenge_limit, draw_limit, list_length, respond_list_length, sample_count, word_count};
+pub use tables::{challenge_limit, draw_limit, draw_list_length, draw_word_count, respond_list_length, sample_count};
 pub use tables::{CDT, POLYNOMIAL, RESPOND_WORDS};
 
 /// A degree, and whether y is drawn. A draw or a response takes the session and hands back the next one, so that none is used twice:
@@ -102,7 +106,13 @@ pub struct Responded {
 
 impl Session {
     /// A session of degree `n` with nothing drawn. Refuses an `n` that is not a power of two from 4 to 1,024.
+    ///
+    /// # Panics
+    ///
+    /// Where the archive is not of this crate's version. What the two hand to each other may then be laid out in two ways.
     pub fn open(n: usize) -> Result<Session, Refusal> {
+        // SAFETY: the call takes nothing, and has this form in every version.
+        demand_version(unsafe { raw::bliss_version() });
         // SAFETY: the call takes any number and no pointer.
         let opened = unsafe { raw::bliss_open(n) };
         match Refusal::of_answer(opened.refusal) {
@@ -201,6 +211,11 @@ impl Session {
     }
 }
 
+fn demand_version(archive: u32) {
+    let own = raw::VERSION;
+    assert!(archive == own, "libbliss_box.a is of version {archive}, and this crate of {own}: build both from one version");
+}
+
 /// The filled part of a list that `count` entries were written to: the list's own first entries. A count over the list's
 /// length gets the empty part.
 pub fn filled(list: &[u32], count: usize) -> &[u32] {
@@ -220,3 +235,22 @@ pub fn exponential(n: u64) -> Result<u64, Refusal> {
 
 /// What the exponential gives for a refused n: no value of e, which is at most 2^62.
 const EXPONENTIAL_REFUSED: u64 = (1 << 63) + Refusal::Exponential.number() as u64;
+
+#[cfg(test)]
+mod tests {
+    use super::*;
+
+    #[test]
+    fn archive_and_crate_are_of_one_version() {
+        let numbers = [env!("CARGO_PKG_VERSION_MAJOR"), env!("CARGO_PKG_VERSION_MINOR"), env!("CARGO_PKG_VERSION_PATCH")];
+        let [major, minor, patch] = numbers.map(|number| number.parse::<u32>().unwrap());
+        assert_eq!(raw::VERSION, 10_000 * major + 100 * minor + patch);
+        assert_eq!(unsafe { raw::bliss_version() }, raw::VERSION);
+    }
+
+    #[test]
+    #[should_panic = "libbliss_box.a is of version 100, and this crate of "]
+    fn an_archive_of_another_version_is_not_used() {
+        demand_version(100);
+    }
+}

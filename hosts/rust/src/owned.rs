@@ -1,17 +1,58 @@
 //! Calls that take words and noise by value and hand back memory of their own. A word and a noise vector are used once, and wiped:
-//! two responses with one y give the key away.
+//! two responses with one y give the key away. A response is a method of the noise that it uses, so that none can be asked for without
+//! noise, or with that of another session. What a host should look for after a call is looked for here.
 
-use crate::{challenge_limit, list_length, respond_list_length, sample_count};
-use crate::{Counts, Outcome, Refusal, Secret, Session};
+use std::error;
+use std::fmt;
+
+use crate::{challenge_limit, draw_list_length, respond_list_length, sample_count};
+use crate::{Counts, Fault, Refusal, Secret, Session};
 
 /// What a draw with memory of its own leaves.
 #[derive(Debug)]
 #[must_use]
-pub struct OwnedDraw {
-    pub answer: Result<Counts, Refusal>,
+pub enum OwnedDraw {
+    /// 2n samples were accepted.
+    Full(Noise),
+    /// The limit was reached first: there is nothing to respond with.
+    Spent(Spent),
+}
+
+/// The noise of a full draw, with the session that drew it. It is wiped when it is dropped.
+///
+/// It is used for one response:
+///
+/// ```compile_fail,E0382
+/// # use bliss_box::{Noise, Secret, POLYNOMIAL, RESPOND_WORDS};
+/// fn respond_twice(noise: Noise, key: &[i32]) {
+///     let _ = noise.respond(&[1], &POLYNOMIAL, Secret::zeroed(RESPOND_WORDS), key);
+///     let _ = noise.respond(&[2], &POLYNOMIAL, Secret::zeroed(RESPOND_WORDS), key);
+/// }
+/// ```
+///
+/// And there is none after a spent draw:
+///
+/// ```compile_fail,E0599
+/// # use bliss_box::{Secret, Spent, POLYNOMIAL, RESPOND_WORDS};
+/// fn respond_without_noise(spent: Spent, key: &[i32]) {
+///     let _ = spent.respond(&[1], &POLYNOMIAL, Secret::zeroed(RESPOND_WORDS), key);
+/// }
+/// ```
+#[derive(Debug)]
+#[must_use]
+pub struct Noise {
+    session: Session,
+    y: Secret<i32>,
+    counts: Counts,
+    list: Vec<u32>,
+}
+
+/// What a spent draw leaves.
+#[derive(Debug)]
+#[must_use]
+pub struct Spent {
     pub session: Session,
-    /// 2n samples where the draw is full; all zero where it is spent or refused.
-    pub y: Secret<i32>,
+    pub counts: Counts,
     /// The read list: the filled part alone.
     pub list: Vec<u32>,
 }
@@ -20,45 +61,117 @@ pub struct OwnedDraw {
 #[derive(Debug)]
 #[must_use]
 pub struct OwnedResponse {
-    pub answer: Result<Outcome, Refusal>,
     pub session: Session,
-    /// The noise that was lent: all zero where the call is served, and as it was where it is refused.
-    pub y: Secret<i32>,
-    /// The response where the bit is true, else all zero.
-    pub z: Vec<i32>,
+    /// The response; none where it is rejected.
+    pub z: Option<Vec<i32>>,
     /// The read list: the filled part alone.
     pub list: Vec<u32>,
 }
 
+/// Why an owned call gave nothing.
+#[derive(Debug)]
+#[non_exhaustive]
+pub enum CallError<T> {
+    /// The call was refused. What it took is handed back as it was, but for the words, which are wiped.
+    Refused(Refusal, T),
+    /// The call was served, and what it left can't be right. All of it is wiped.
+    Fault(Fault),
+}
+
+impl<T> fmt::Display for CallError<T> {
+    fn fmt(&self, f: &mut fmt::Formatter) -> fmt::Result {
+        match self {
+            CallError::Refused(refusal, _) => refusal.fmt(f),
+            CallError::Fault(fault) => fault.fmt(f),
+        }
+    }
+}
+
+impl<T: fmt::Debug> error::Error for CallError<T> {}
+
+impl<T> From<Fault> for CallError<T> {
+    fn from(fault: Fault) -> CallError<T> {
+        CallError::Fault(fault)
+    }
+}
+
 impl Session {
     /// [`Session::draw`] with words that are wiped after it, and with a y and a list of its own.
-    pub fn draw_owned(self, limit: usize, cdt: &[u64], polynomial: &[u64], words: Secret<u64>) -> OwnedDraw {
+    pub fn draw_owned(
+        self,
+        limit: usize,
+        cdt: &[u64],
+        polynomial: &[u64],
+        words: Secret<u64>,
+    ) -> Result<OwnedDraw, CallError<Session>> {
         let n = self.degree();
         // A larger limit is refused before the list is looked at, so it is given none.
-        let length = if limit <= 32 * n { list_length(limit) } else { 0 };
+        let length = if limit <= 32 * n { draw_list_length(limit) } else { 0 };
         let mut y = Secret::zeroed(sample_count(n));
         let mut list = vec![0; length];
         let drawn = self.draw(limit, cdt, polynomial, &words, &mut y, &mut list);
-        list.truncate(drawn.answer.map_or(0, |counts| counts.entries));
-        OwnedDraw { answer: drawn.answer, session: drawn.session, y, list }
+        let counts = match drawn.answer {
+            Ok(counts) => counts,
+            Err(refusal) => return Err(CallError::Refused(refusal, drawn.session)),
+        };
+        counts.check(n, &y, &list)?;
+        list.truncate(counts.entries);
+        Ok(match drawn.session.is_drawn() {
+            true => OwnedDraw::Full(Noise { session: drawn.session, y, counts, list }),
+            false => OwnedDraw::Spent(Spent { session: drawn.session, counts, list }),
+        })
+    }
+}
+
+impl Noise {
+    /// n: there are 2n samples.
+    pub fn degree(&self) -> usize {
+        self.session.degree()
     }
 
-    /// [`Session::respond`] with words and noise that are wiped after it, and with a z and a list of its own.
-    pub fn respond_owned(
+    /// The 2n samples in the order of their acceptance, for what a signature commits to.
+    pub fn samples(&self) -> &[i32] {
+        &self.y
+    }
+
+    /// What the draw counted.
+    pub fn counts(&self) -> Counts {
+        self.counts
+    }
+
+    /// The read list of the draw: the filled part alone.
+    pub fn list(&self) -> &[u32] {
+        &self.list
+    }
+
+    /// Wipes the noise unused, and hands back its session.
+    pub fn discard(self) -> Session {
+        self.session
+    }
+
+    /// [`Session::respond`] with this noise and with words that are wiped after it, and with a z and a list of its own.
+    pub fn respond(
         self,
         challenge: &[u32],
         polynomial: &[u64],
         words: Secret<u64>,
         key: &[i32],
-        mut y: Secret<i32>,
-    ) -> OwnedResponse {
+    ) -> Result<OwnedResponse, CallError<Noise>> {
         let n = self.degree();
+        let Noise { session, mut y, counts, list: draw_list } = self;
         // A longer challenge is refused before the list is looked at, so it is given none.
         let length = if challenge.len() <= challenge_limit(n) { respond_list_length(n, challenge.len()) } else { 0 };
-        let mut z = vec![0; sample_count(n)];
+        let mut z = Secret::zeroed(sample_count(n));
         let mut list = vec![0; length];
-        let responded = self.respond(challenge, polynomial, &words, key, &mut y, &mut z, &mut list);
-        list.truncate(responded.answer.map_or(0, |outcome| outcome.entries));
-        OwnedResponse { answer: responded.answer, session: responded.session, y, z, list }
+        let responded = session.respond(challenge, polynomial, &words, key, &mut y, &mut z, &mut list);
+        let outcome = match responded.answer {
+            Ok(outcome) => outcome,
+            Err(refusal) => {
+                let noise = Noise { session: responded.session, y, counts, list: draw_list };
+                return Err(CallError::Refused(refusal, noise));
+            }
+        };
+        outcome.check(n, challenge.len(), &list)?;
+        Ok(OwnedResponse { session: responded.session, z: outcome.bit.then(|| z.to_vec()), list })
     }
 }

@@ -3,6 +3,9 @@
 
 use std::mem::{offset_of, size_of};
 
+/// `BLISS_BOX_VERSION`: 10,000 × major + 100 × minor + patch.
+pub const VERSION: u32 = 200;
+
 /// `bliss_session`.
 #[repr(C)]
 #[derive(Clone, Copy, Debug, PartialEq, Eq)]
@@ -85,6 +88,9 @@ const _: () = {
 };
 
 extern "C" {
+    /// The archive's version, to be compared with [`VERSION`] before any other call. It has this form in every version.
+    pub fn bliss_version() -> u32;
+
     /// Takes any number.
     pub fn bliss_open(n: usize) -> Opened;
 

@@ -4,6 +4,7 @@ use std::fmt;
 
 /// A refusal of document 01. A refused call changes nothing that it was lent.
 #[derive(Clone, Copy, Debug, PartialEq, Eq, Hash)]
+#[non_exhaustive]
 pub enum Refusal {
     /// The degree is not a power of two from 4 to 1,024.
     Degree,
@@ -29,10 +30,13 @@ pub enum Refusal {
     Y,
     /// The exponential by N alone was asked for an N above 5,534,960.
     Exponential,
+    /// A number that this crate has no name for.
+    Unknown(u32),
 }
 
 impl Refusal {
-    const ALL: [Refusal; 12] = [
+    /// Those with a name, in the order of their numbers.
+    const NAMED: [Refusal; 12] = [
         Refusal::Degree,
         Refusal::Lengths,
         Refusal::Cdt,
@@ -62,6 +66,7 @@ impl Refusal {
             Refusal::Key => 10,
             Refusal::Y => 11,
             Refusal::Exponential => 12,
+            Refusal::Unknown(number) => number,
         }
     }
 
@@ -70,8 +75,8 @@ impl Refusal {
         if number == 0 {
             return None;
         }
-        let known = Refusal::ALL.into_iter().find(|refusal| refusal.number() == number);
-        Some(known.unwrap_or_else(|| panic!("the archive gave the unknown refusal {number}")))
+        let named = Refusal::NAMED.into_iter().find(|refusal| refusal.number() == number);
+        Some(named.unwrap_or(Refusal::Unknown(number)))
     }
 }
 
@@ -95,9 +100,26 @@ impl fmt::Display for Refusal {
             Refusal::Key => "a value of the key is outside -7 to 7",
             Refusal::Y => "a value of y is outside -2815 to 2815",
             Refusal::Exponential => "N is above 5534960",
+            Refusal::Unknown(_) => "it has no name here",
         };
         write!(f, "refusal {}: {reason}", self.number())
     }
 }
 
 impl std::error::Error for Refusal {}
+
+#[cfg(test)]
+mod tests {
+    use super::*;
+
+    #[test]
+    fn every_number_of_an_answer_is_a_refusal_but_0() {
+        assert_eq!(Refusal::of_answer(0), None);
+        for number in (1..100).chain([u32::MAX]) {
+            let refusal = Refusal::of_answer(number).unwrap();
+            assert_eq!(refusal.number(), number);
+            assert_eq!(refusal == Refusal::Unknown(number), number > 12, "{number}");
+            assert!(refusal.to_string().starts_with(&format!("refusal {number}: ")));
+        }
+    }
+}

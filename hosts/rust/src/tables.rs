@@ -41,12 +41,12 @@ pub const fn draw_limit(n: usize) -> usize {
 }
 
 /// The words that a draw of at most `limit` attempts must be lent.
-pub const fn word_count(limit: usize) -> usize {
+pub const fn draw_word_count(limit: usize) -> usize {
     4 * limit
 }
 
 /// The list entries that a draw of at most `limit` attempts must be lent.
-pub const fn list_length(limit: usize) -> usize {
+pub const fn draw_list_length(limit: usize) -> usize {
     46 * limit + 2
 }
 

@@ -10,7 +10,7 @@ use std::io::{BufRead, BufReader, Write};
 use std::process::{Child, Command, Stdio};
 use std::str::FromStr;
 
-use bliss_box::{draw_limit, word_count, Secret, Session, CDT, POLYNOMIAL, RESPOND_WORDS};
+use bliss_box::{draw_limit, draw_word_count, Noise, OwnedDraw, Secret, Session, CDT, POLYNOMIAL, RESPOND_WORDS};
 use random::Random;
 
 /// What a run of the program left.
@@ -110,10 +110,16 @@ fn each_option_is_in_the_help() {
     }
 }
 
-/// The draw of the library with these words.
-fn library_draw(n: usize, limit: usize, cdt: &[u64], words: &[u64]) -> bliss_box::OwnedDraw {
-    let words = Secret::from(words[..word_count(limit)].to_vec());
-    Session::open(n).unwrap().draw_owned(limit, cdt, &POLYNOMIAL, words)
+/// The noise that the library draws with these words.
+fn library_draw(session: Session, limit: usize, cdt: &[u64], words: &[u64]) -> Noise {
+    match session.draw_owned(limit, cdt, &POLYNOMIAL, Secret::from(words[..draw_word_count(limit)].to_vec())) {
+        Ok(OwnedDraw::Full(noise)) => noise,
+        other => panic!("{other:?}"),
+    }
+}
+
+fn open(n: usize) -> Session {
+    Session::open(n).unwrap()
 }
 
 #[test]
@@ -121,32 +127,30 @@ fn draws_are_the_librarys() {
     for n in [4, 64, 512, 1024] {
         let limit = draw_limit(n);
         // A word more than is needed.
-        let words = random_words(n as u64, word_count(limit) + 1);
+        let words = random_words(n as u64, draw_word_count(limit) + 1);
         let (words_file, list_file) = (file(&format!("draw-words-{n}"), lines(&words)), path(&format!("draw-list-{n}")));
         let ran = run(&["draw", "--degree", &n.to_string(), "--words", &words_file, "--list", &list_file]);
-        let drawn = library_draw(n, limit, &CDT, &words);
-        let counts = drawn.answer.unwrap();
-        assert!(drawn.session.is_drawn());
-        assert_eq!((ran.status, ran.out), (0, lines(&drawn.y)));
+        let drawn = library_draw(open(n), limit, &CDT, &words);
+        let counts = drawn.counts();
+        assert_eq!((ran.status, ran.out), (0, lines(drawn.samples())));
         let said = format!("draw full: attempts {}, accepted {}, entries {}\n", counts.attempts, 2 * n, counts.entries);
         assert_eq!(ran.err, said);
-        assert_eq!(fs::read_to_string(list_file).unwrap(), lines(&drawn.list));
+        assert_eq!(fs::read_to_string(list_file).unwrap(), lines(drawn.list()));
     }
 }
 
 #[test]
 fn draws_take_limit_and_cdt() {
     let cdt: Vec<u64> = (1..=10).flat_map(|i| [i << 58, 7]).collect();
-    let words = random_words(1, word_count(100));
+    let words = random_words(1, draw_word_count(100));
     let (cdt_file, words_file) = (file("other-cdt", lines(&cdt)), file("other-words", lines(&words)));
     let with = ["draw", "--degree", "4", "--words", &words_file];
-    let drawn = library_draw(4, 100, &cdt, &words);
-    assert!(drawn.session.is_drawn());
-    assert_ne!(drawn.y[..], library_draw(4, 100, &CDT, &words).y[..]);
-    assert_eq!(run(&[&with[..], &["--cdt", &cdt_file, "--limit", "100"]].concat()).out, lines(&drawn.y));
+    let drawn = library_draw(open(4), 100, &cdt, &words);
+    assert_ne!(drawn.samples(), library_draw(open(4), 100, &CDT, &words).samples());
+    assert_eq!(run(&[&with[..], &["--cdt", &cdt_file, "--limit", "100"]].concat()).out, lines(drawn.samples()));
 
     let listed = run(&[&with[..], &["--cdt", &cdt_file, "--limit", "100", "--list", "-"]].concat());
-    assert_eq!((listed.status, listed.out), (0, lines(&drawn.list)));
+    assert_eq!((listed.status, listed.out), (0, lines(drawn.list())));
 }
 
 #[test]
@@ -180,24 +184,24 @@ fn key_and_challenge(name: &str) -> [String; 2] {
 
 /// Words for a draw, and these for the response, of which word 1 of all ones rejects.
 fn words_of_a_try(seed: u64, respond_words: [u64; RESPOND_WORDS]) -> Vec<u64> {
-    [random_words(seed, word_count(draw_limit(4))), respond_words.to_vec()].concat()
+    [random_words(seed, draw_word_count(draw_limit(4))), respond_words.to_vec()].concat()
 }
 
 #[test]
 fn responses_are_the_librarys() {
     let tries = [words_of_a_try(5, [1, u64::MAX, 0]), words_of_a_try(6, [0, u64::MAX, 0]), words_of_a_try(7, [1, 0, 0])];
     let mut session = Session::open(4).unwrap();
-    let (mut list, mut z) = (vec![], vec![]);
+    let (mut list, mut z) = (vec![], None);
     for words in &tries {
-        let (draw_words, words) = words.split_at(word_count(draw_limit(4)));
-        let drawn = session.draw_owned(draw_limit(4), &CDT, &POLYNOMIAL, Secret::from(draw_words.to_vec()));
-        let words = Secret::from(words.to_vec());
-        let responded = drawn.session.respond_owned(&[0, 3], &POLYNOMIAL, words, &KEY, drawn.y);
+        let (draw_words, words) = words.split_at(draw_word_count(draw_limit(4)));
+        let noise = library_draw(session, draw_limit(4), &CDT, draw_words);
+        list.extend(noise.list());
+        let responded = noise.respond(&[0, 3], &POLYNOMIAL, Secret::from(words.to_vec()), &KEY).unwrap();
         session = responded.session;
-        list.extend([drawn.list, responded.list].concat());
+        list.extend(responded.list);
         z = responded.z;
     }
-    assert!(z.iter().any(|value| *value != 0));
+    let z = z.expect("the third is accepted");
 
     let ([key, challenge], list_file) = (key_and_challenge("respond"), path("respond-list"));
     let words = file("respond-words", lines(&tries.concat()));
@@ -323,8 +327,8 @@ fn files_that_cannot_be_read_are_named() {
 
 #[test]
 fn tables_may_say_what_they_are() {
-    let words = random_words(2, word_count(draw_limit(4)));
-    let expected = lines(&library_draw(4, draw_limit(4), &CDT, &words).y);
+    let words = random_words(2, draw_word_count(draw_limit(4)));
+    let expected = lines(library_draw(open(4), draw_limit(4), &CDT, &words).samples());
     let mut text = String::from("# words\r\n\r\n");
     for word in &words {
         text += &format!("\t 00{word} \r\n  # and so on\n");
@@ -343,8 +347,8 @@ fn tables_may_say_what_they_are() {
 fn words_are_read_as_far_as_they_are_needed() {
     let mut endless = program(&["draw", "--degree", "4", "--words", "-"]).stdin(Stdio::piped()).spawn().unwrap();
     let mut input = endless.stdin.take().unwrap();
-    while input.write_all(b"0\n").is_ok() {}
-    assert_eq!(ended(endless).out, "0\n".repeat(8));
+    while input.write_all(b"0\n0\n1\n0\n").is_ok() {}
+    assert_eq!(ended(endless).out, "1\n".repeat(8));
 }
 
 #[test]
@@ -479,7 +483,7 @@ fn a_sessions_list_tells_the_challenge() {
 
 #[test]
 fn damaged_lists_are_errors() {
-    let draw = library_draw(4, 8, &CDT, &words_with("11111111")).list;
+    let draw = library_draw(open(4), 8, &CDT, &words_with("11111111")).list().to_vec();
     let damaged = |name: &str, list: &[u32], problem: &str| {
         let list = file(name, lines(list));
         fails(&["list", &list], 1, &format!("{list}: {problem}"));

@@ -4,7 +4,7 @@ use std::alloc::{GlobalAlloc, Layout, System};
 use std::slice;
 use std::sync::atomic::{AtomicUsize, Ordering::SeqCst};
 
-use bliss_box::{sample_count, word_count, Secret, Session, CDT, POLYNOMIAL, RESPOND_WORDS};
+use bliss_box::{draw_word_count, sample_count, OwnedDraw, Secret, Session, CDT, POLYNOMIAL, RESPOND_WORDS};
 
 /// Blocks of this many bytes are looked at; 0 is none.
 static WATCHED: AtomicUsize = AtomicUsize::new(0);
@@ -53,23 +53,32 @@ fn secrets_are_wiped_when_they_are_dropped() {
     assert_eq!(given_back(8 * 7777, || drop(Secret::from(truncated))), (1, 0), "what was cut off a vector is wiped too");
 
     let (n, limit) = (64, 9 * 64);
-    let words = Secret::system_words(word_count(limit)).unwrap();
-    let session = Session::open(n).unwrap();
-    let mut drawn = None;
-    let counts = given_back(8 * word_count(limit), || drawn = Some(session.draw_owned(limit, &CDT, &POLYNOMIAL, words)));
-    assert_eq!(counts, (1, 0), "a draw wipes its words");
-    let drawn = drawn.unwrap();
-    assert!(drawn.y.iter().any(|&sample| sample != 0));
-    assert_eq!(given_back(4 * sample_count(n), || drop(drawn.y)), (1, 0), "noise that is not used is wiped");
+    let draw = || {
+        let words = Secret::system_words(draw_word_count(limit)).unwrap();
+        let session = Session::open(n).unwrap();
+        let mut drawn = None;
+        let counts =
+            given_back(8 * draw_word_count(limit), || drawn = Some(session.draw_owned(limit, &CDT, &POLYNOMIAL, words)));
+        assert_eq!(counts, (1, 0), "a draw wipes its words");
+        match drawn {
+            Some(Ok(OwnedDraw::Full(noise))) => noise,
+            other => panic!("{other:?}"),
+        }
+    };
+    let unused = draw();
+    assert!(unused.samples().iter().any(|&sample| sample != 0));
+    assert_eq!(given_back(4 * sample_count(n), || drop(unused.discard())), (1, 0), "noise that is not used is wiped");
+
     // The words that a response reads are 24 bytes, like much else, so these are more than it reads.
     let lent = 777 * RESPOND_WORDS;
-    let words = Secret::system_words(lent).unwrap();
-    let key = Secret::zeroed(sample_count(n));
-    let y = Secret::zeroed(sample_count(n));
+    let (noise, words, key) = (draw(), Secret::system_words(lent).unwrap(), Secret::zeroed(sample_count(n)));
     let mut responded = None;
-    let counts = given_back(8 * lent, || {
-        responded = Some(drawn.session.respond_owned(&[1], &POLYNOMIAL, words, &key, y));
-    });
+    let counts = given_back(8 * lent, || responded = Some(noise.respond(&[1], &POLYNOMIAL, words, &key)));
     assert_eq!(counts, (1, 0), "a response wipes its words");
-    assert!(responded.unwrap().answer.is_ok());
+    assert!(responded.unwrap().is_ok());
+
+    // A key of zeros makes z the noise.
+    let (noise, words) = (draw(), Secret::zeroed(RESPOND_WORDS));
+    let counts = given_back(4 * sample_count(n), || noise.respond(&[1], &POLYNOMIAL, words, &key).unwrap().z.unwrap());
+    assert_eq!(counts, (2, 0), "a response wipes the noise, and its own copy of z");
 }

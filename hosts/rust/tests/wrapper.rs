@@ -1,6 +1,6 @@
 //! The safe functions: what they hand back, served and refused.
 
-use bliss_box::{challenge_limit, exponential, filled, list_length, respond_list_length, sample_count, word_count};
+use bliss_box::{challenge_limit, draw_list_length, draw_word_count, exponential, filled, respond_list_length, sample_count};
 use bliss_box::{Counts, Outcome, Refusal, Responded, Secret, Session, CDT, POLYNOMIAL, RESPOND_WORDS};
 
 const N: usize = 4;
@@ -8,9 +8,9 @@ const LIMIT: usize = 2 * N;
 
 /// Draws with these words, y of all ones before, and a list of all nines.
 fn draw(session: Session, word: u64) -> (bliss_box::Drawn, Vec<i32>, Vec<u32>) {
-    let words = [word; word_count(LIMIT)];
+    let words = [word; draw_word_count(LIMIT)];
     let mut y = vec![1; sample_count(N)];
-    let mut list = vec![9; list_length(LIMIT)];
+    let mut list = vec![9; draw_list_length(LIMIT)];
     let drawn = session.draw(LIMIT, &CDT, &POLYNOMIAL, &words, &mut y, &mut list);
     (drawn, y, list)
 }
@@ -47,7 +47,7 @@ fn opening_serves_powers_of_two_alone() {
 fn a_full_draw_sets_drawn() {
     // Words of 0 give the sample 0, which is always accepted.
     let (drawn, y, list) = draw(Session::open(N).unwrap(), 0);
-    assert_eq!(drawn.answer, Ok(Counts { attempts: 8, accepted: 8, entries: list_length(LIMIT) }));
+    assert_eq!(drawn.answer, Ok(Counts { attempts: 8, accepted: 8, entries: draw_list_length(LIMIT) }));
     assert!(drawn.session.is_drawn());
     assert_eq!(y, [0; 8]);
     assert_eq!(list.first(), Some(&((1 << 24) + 4)));
@@ -58,7 +58,7 @@ fn a_full_draw_sets_drawn() {
 fn a_spent_draw_clears_drawn() {
     // Words of all ones give the size 2815, which word 3 rejects.
     let (drawn, y, list) = draw(drawn_session(), u64::MAX);
-    assert_eq!(drawn.answer, Ok(Counts { attempts: 8, accepted: 0, entries: list_length(LIMIT) }));
+    assert_eq!(drawn.answer, Ok(Counts { attempts: 8, accepted: 0, entries: draw_list_length(LIMIT) }));
     assert!(!drawn.session.is_drawn());
     assert_eq!(drawn.session.degree(), N);
     assert_eq!(y, [0; 8]);
@@ -76,23 +76,23 @@ fn a_response_after_a_spent_draw_is_refused() {
 
 #[test]
 fn the_largest_limit_is_served() {
-    let words = [u64::MAX; word_count(32 * N)];
-    let mut list = [9; list_length(32 * N)];
+    let words = [u64::MAX; draw_word_count(32 * N)];
+    let mut list = [9; draw_list_length(32 * N)];
     let spent = Session::open(N).unwrap().draw(32 * N, &CDT, &POLYNOMIAL, &words, &mut [1; 8], &mut list);
-    assert_eq!(spent.answer, Ok(Counts { attempts: 128, accepted: 0, entries: list_length(32 * N) }));
+    assert_eq!(spent.answer, Ok(Counts { attempts: 128, accepted: 0, entries: draw_list_length(32 * N) }));
 }
 
 #[test]
 fn a_refused_draw_hands_the_session_back() {
-    let words = [0; word_count(LIMIT)];
+    let words = [0; draw_word_count(LIMIT)];
     let mut y = [1; sample_count(N)];
-    let mut list = [9; list_length(LIMIT)];
+    let mut list = [9; draw_list_length(LIMIT)];
     let refused = drawn_session().draw(LIMIT - 1, &CDT, &POLYNOMIAL, &words, &mut y, &mut list);
     assert_eq!(refused.answer, Err(Refusal::Limit));
     assert!(refused.session.is_drawn());
     assert_eq!(refused.session.degree(), N);
     assert_eq!(y, [1; 8]);
-    assert_eq!(list, [9; list_length(LIMIT)]);
+    assert_eq!(list, [9; draw_list_length(LIMIT)]);
 
     let served = refused.session.draw(LIMIT, &CDT, &POLYNOMIAL, &words, &mut y, &mut list);
     assert!(served.answer.is_ok());
@@ -110,12 +110,12 @@ fn each_refusal_of_a_draw_is_typed() {
         let session = Session::open(N).unwrap();
         session.draw(limit, cdt, polynomial, &words, &mut [0; 8], &mut list).answer.unwrap_err()
     };
-    let (words, entries) = (word_count(LIMIT), list_length(LIMIT));
+    let (words, entries) = (draw_word_count(LIMIT), draw_list_length(LIMIT));
     assert_eq!(refusal(8, &CDT[..19], &POLYNOMIAL, words, entries), Refusal::Lengths);
     assert_eq!(refusal(8, &falling, &POLYNOMIAL, words, entries), Refusal::Cdt);
     assert_eq!(refusal(8, &CDT, &damaged, words, entries), Refusal::Polynomial);
     assert_eq!(refusal(7, &CDT, &POLYNOMIAL, words, entries), Refusal::Limit);
-    assert_eq!(refusal(129, &CDT, &POLYNOMIAL, word_count(129), list_length(129)), Refusal::Limit);
+    assert_eq!(refusal(129, &CDT, &POLYNOMIAL, draw_word_count(129), draw_list_length(129)), Refusal::Limit);
     assert_eq!(refusal(8, &CDT, &POLYNOMIAL, words - 1, entries), Refusal::Words);
     assert_eq!(refusal(8, &CDT, &POLYNOMIAL, words, entries - 1), Refusal::List);
 }
@@ -195,7 +195,7 @@ fn empty_slices_are_refused_and_not_read() {
     assert_eq!(drawn.answer, Err(Refusal::Lengths));
     let drawn = drawn.session.draw(LIMIT, &CDT, &POLYNOMIAL, &[], &mut [0; 8], &mut []);
     assert_eq!(drawn.answer, Err(Refusal::Words));
-    let drawn = drawn.session.draw(LIMIT, &CDT, &POLYNOMIAL, &[0; word_count(LIMIT)], &mut [0; 8], &mut []);
+    let drawn = drawn.session.draw(LIMIT, &CDT, &POLYNOMIAL, &[0; draw_word_count(LIMIT)], &mut [0; 8], &mut []);
     assert_eq!(drawn.answer, Err(Refusal::List));
 
     let empty = drawn_session().respond(&[], &[], &[], &[], &mut [], &mut [], &mut []);
@@ -210,53 +210,6 @@ fn empty_slices_are_refused_and_not_read() {
     let empty = respond(empty.session, &[1], &[0; RESPOND_WORDS]);
     assert_eq!(empty.answer, Err(Refusal::List));
     assert!(empty.session.is_drawn());
-}
-
-/// Words that accept every sample, of sizes 0 to 255 and both signs.
-fn accepting_words() -> Vec<u64> {
-    (0..LIMIT as u64).flat_map(|t| [0, 0, 257 * (t + 1), 0]).collect()
-}
-
-#[test]
-fn owned_calls_are_the_lent_ones() {
-    let words = accepting_words();
-    let (mut y, mut list) = ([1; sample_count(N)], [9; list_length(LIMIT)]);
-    let lent = Session::open(N).unwrap().draw(LIMIT, &CDT, &POLYNOMIAL, &words, &mut y, &mut list);
-    let owned = Session::open(N).unwrap().draw_owned(LIMIT, &CDT, &POLYNOMIAL, Secret::from(words));
-    assert_eq!((owned.answer, &owned.session), (lent.answer, &lent.session));
-    assert_eq!(owned.y[..], y);
-    assert_ne!(y, [0; 8]);
-    assert_eq!(owned.list, filled(&list, owned.answer.unwrap().entries));
-
-    let key = [1, 2, 3, 4, -1, 0, 7, -7];
-    let (mut z, mut list) = ([5; sample_count(N)], [9; respond_list_length(N, 2)]);
-    let lent = lent.session.respond(&[0, 3], &POLYNOMIAL, &[0; RESPOND_WORDS], &key, &mut y, &mut z, &mut list);
-    let owned = owned.session.respond_owned(&[0, 3], &POLYNOMIAL, Secret::zeroed(RESPOND_WORDS), &key, owned.y);
-    assert_eq!((owned.answer, &owned.session), (lent.answer, &lent.session));
-    assert_eq!(owned.y[..], [0; 8]);
-    assert_eq!(owned.z, z);
-    assert_ne!(z, [0; 8]);
-    assert_eq!(owned.list, list);
-}
-
-#[test]
-fn refused_owned_calls_hand_back_session_and_noise() {
-    for (limit, refusal) in [(7, Refusal::Limit), (9, Refusal::Words), (129, Refusal::Limit), (usize::MAX, Refusal::Limit)] {
-        let refused = drawn_session().draw_owned(limit, &CDT, &POLYNOMIAL, Secret::zeroed(word_count(LIMIT)));
-        assert_eq!(refused.answer, Err(refusal));
-        assert!(refused.session.is_drawn());
-        assert_eq!((&refused.y[..], refused.list.len()), (&[0; 8][..], 0));
-    }
-    let drawn = Session::open(N).unwrap().draw_owned(LIMIT, &CDT, &POLYNOMIAL, Secret::from(accepting_words()));
-    let y = drawn.y.to_vec();
-    for challenge in [&[4][..], &[0; 65], &[]] {
-        let noise = Secret::from(y.clone());
-        let refused = drawn_session().respond_owned(challenge, &POLYNOMIAL, Secret::zeroed(RESPOND_WORDS), &[0; 8], noise);
-        assert_eq!(refused.answer, Err(Refusal::Challenge));
-        assert!(refused.session.is_drawn());
-        assert_eq!(refused.y[..], y);
-        assert_eq!((refused.z, refused.list.len()), (vec![0; 8], 0));
-    }
 }
 
 #[test]
@@ -285,7 +238,7 @@ fn the_known_points_of_an_attempt_hold() {
         let words = [high, low, word_2, 0].repeat(LIMIT);
         let mut y = [0; sample_count(N)];
         let session = Session::open(N).unwrap();
-        let drawn = session.draw(LIMIT, &thresholds, &POLYNOMIAL, &words, &mut y, &mut [0; list_length(LIMIT)]);
+        let drawn = session.draw(LIMIT, &thresholds, &POLYNOMIAL, &words, &mut y, &mut [0; draw_list_length(LIMIT)]);
         drawn.session.is_drawn().then_some(y[0])
     };
     assert_eq!(sample(0, 0, 0), Some(0));
@@ -327,6 +280,6 @@ fn refusals_carry_their_number() {
 #[test]
 fn the_tables_are_those_of_document_01() {
     assert_eq!([POLYNOMIAL[0], POLYNOMIAL[1], POLYNOMIAL[19], POLYNOMIAL[20]], [1 << 62, 1 << 62, 37, 1]);
-    assert_eq!([sample_count(4), word_count(128), list_length(8), list_length(128)], [8, 512, 370, 5890]);
+    assert_eq!([sample_count(4), draw_word_count(128), draw_list_length(8), draw_list_length(128)], [8, 512, 370, 5890]);
     assert_eq!([challenge_limit(4), challenge_limit(1024), RESPOND_WORDS, respond_list_length(4, 1)], [4, 64, 3, 55]);
 }

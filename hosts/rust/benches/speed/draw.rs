@@ -1,6 +1,6 @@
 //! Draws with the CDT for deviation 215.
 
-use bliss_box::{list_length, sample_count, word_count, Counts, Drawn, Refusal, Session, CDT, POLYNOMIAL};
+use bliss_box::{draw_list_length, draw_word_count, sample_count, Counts, Drawn, Refusal, Session, CDT, POLYNOMIAL};
 
 use crate::baseline::{self, HighWord, Product, Shifted};
 use crate::random::Random;
@@ -27,9 +27,9 @@ impl Draw {
             limit,
             cdt: CDT,
             polynomial: POLYNOMIAL,
-            words: (0..word_count(limit)).map(|_| random.word()).collect(),
+            words: (0..draw_word_count(limit)).map(|_| random.word()).collect(),
             y: vec![0; sample_count(n)],
-            list: vec![0; list_length(limit)],
+            list: vec![0; draw_list_length(limit)],
         }
     }
 

@@ -1,6 +1,6 @@
 //! The refusals of a draw and of a response, in document 01's order. The types of the tables hold their lengths.
 
-use bliss_box::{challenge_limit, list_length, respond_list_length, sample_count, word_count};
+use bliss_box::{challenge_limit, draw_list_length, draw_word_count, respond_list_length, sample_count};
 use bliss_box::{Refusal, Session, POLYNOMIAL, RESPOND_WORDS};
 
 use super::words::threshold;
@@ -19,8 +19,8 @@ pub fn check_draw(
     demand(is_cdt(cdt), Refusal::Cdt)?;
     demand(*polynomial == POLYNOMIAL, Refusal::Polynomial)?;
     demand((2 * n..=32 * n).contains(&limit), Refusal::Limit)?;
-    demand(words.len() >= word_count(limit), Refusal::Words)?;
-    demand(list.len() >= list_length(limit), Refusal::List)
+    demand(words.len() >= draw_word_count(limit), Refusal::Words)?;
+    demand(list.len() >= draw_list_length(limit), Refusal::List)
 }
 
 #[allow(clippy::too_many_arguments)]

@@ -1,6 +1,6 @@
 //! `bliss-box draw`: draws the noise of one signature.
 
-use bliss_box::{draw_limit, word_count, Counts, OwnedDraw, Refusal, Secret, Session, CDT, POLYNOMIAL};
+use bliss_box::{draw_limit, draw_word_count, CallError, Counts, OwnedDraw, Refusal, Secret, Session, CDT, POLYNOMIAL};
 
 use crate::arguments::{Arguments, Command, Operands};
 use crate::ending::{Failure, Status};
@@ -60,17 +60,15 @@ impl Drawing {
         Ok(Drawing { limit, cdt, words: Words::of(arguments.value("--words"))? })
     }
 
-    /// Draws once, and hands back what was counted too.
-    pub fn draw(&mut self, session: Session) -> Result<(Counts, OwnedDraw), Failure> {
+    pub fn draw(&mut self, session: Session) -> Result<OwnedDraw, Failure> {
         let n = session.degree();
         // Any other limit is refused before words are looked at, so it is given none.
-        let words = if (2 * n..=32 * n).contains(&self.limit) { word_count(self.limit) } else { 0 };
+        let words = if (2 * n..=32 * n).contains(&self.limit) { draw_word_count(self.limit) } else { 0 };
         let words = self.words.take(words, "a draw")?;
-        let drawn = session.draw_owned(self.limit, &self.cdt.numbers, &POLYNOMIAL, words);
-        match drawn.answer {
-            Ok(counts) => Ok((counts, drawn)),
-            Err(refusal) => Err(self.refused(refusal, n)),
-        }
+        session.draw_owned(self.limit, &self.cdt.numbers, &POLYNOMIAL, words).map_err(|error| match error {
+            CallError::Refused(refusal, _) => self.refused(refusal, n),
+            error => error.into(),
+        })
     }
 
     /// A refused draw, and what was wrong with what the command line gave it.
@@ -93,17 +91,22 @@ impl Drawing {
 }
 
 /// What a draw came to, in a line.
-pub fn summary(counts: Counts, session: &Session) -> String {
-    let end = if session.is_drawn() { "full" } else { "spent" };
-    format!("draw {end}: attempts {}, accepted {}, entries {}", counts.attempts, counts.accepted, counts.entries)
+pub fn summary(drawn: &OwnedDraw) -> String {
+    let (end, Counts { attempts, accepted, entries }) = match drawn {
+        OwnedDraw::Full(noise) => ("full", noise.counts()),
+        OwnedDraw::Spent(spent) => ("spent", spent.counts),
+    };
+    format!("draw {end}: attempts {attempts}, accepted {accepted}, entries {entries}")
 }
 
 fn run(arguments: &Arguments) -> Result<Status, Failure> {
     let session = open(arguments)?;
-    let (counts, drawn) = Drawing::of(arguments, &session)?.draw(session)?;
-    let full = drawn.session.is_drawn();
-    let samples = if full { &drawn.y[..] } else { &[] };
-    output::deliver(samples, &drawn.list, arguments.value("--list"))?;
-    output::say(&summary(counts, &drawn.session));
-    Ok(if full { Status::Served } else { Status::Unserved })
+    let drawn = Drawing::of(arguments, &session)?.draw(session)?;
+    let (samples, list, status) = match &drawn {
+        OwnedDraw::Full(noise) => (noise.samples(), noise.list(), Status::Served),
+        OwnedDraw::Spent(spent) => (&[][..], &spent.list[..], Status::Unserved),
+    };
+    output::deliver(samples, list, arguments.value("--list"))?;
+    output::say(&summary(&drawn));
+    Ok(status)
 }

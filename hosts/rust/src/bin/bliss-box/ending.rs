@@ -2,7 +2,7 @@
 
 use std::fmt;
 
-use bliss_box::Refusal;
+use bliss_box::{CallError, Refusal};
 
 /// The exit status of the program.
 #[derive(Clone, Copy)]
@@ -42,6 +42,12 @@ impl Failure {
             Failure::Refused(_) => Status::Refused,
             Failure::Usage(_) => Status::Usage,
         }
+    }
+}
+
+impl<T> From<CallError<T>> for Failure {
+    fn from(error: CallError<T>) -> Failure {
+        Failure::Refused(error.to_string())
     }
 }
 

@@ -1,6 +1,6 @@
 //! `bliss-box respond`: draws noise, and answers a challenge with it and a key.
 
-use bliss_box::{sample_count, Refusal, Session, POLYNOMIAL, RESPOND_WORDS};
+use bliss_box::{sample_count, CallError, OwnedDraw, Refusal, Session, POLYNOMIAL, RESPOND_WORDS};
 
 use crate::arguments::{Arguments, Command, Operands};
 use crate::draw::{self, Drawing};
@@ -68,22 +68,23 @@ struct Try {
 impl Responding {
     /// One try. A spent draw has no noise to respond with, so it is a try that fails.
     fn once(&mut self, session: Session) -> Result<Try, Failure> {
-        let (counts, drawn) = self.drawing.draw(session)?;
-        let summary = draw::summary(counts, &drawn.session);
-        if !drawn.session.is_drawn() {
-            return Ok(Try { session: drawn.session, z: None, list: drawn.list, summary });
-        }
-        let n = drawn.session.degree();
+        let drawn = self.drawing.draw(session)?;
+        let summary = draw::summary(&drawn);
+        let noise = match drawn {
+            OwnedDraw::Full(noise) => noise,
+            OwnedDraw::Spent(spent) => return Ok(Try { session: spent.session, z: None, list: spent.list, summary }),
+        };
+        let (n, mut list) = (noise.degree(), noise.list().to_vec());
         let words = self.drawing.words().take(RESPOND_WORDS, "a response")?;
-        let responded = drawn.session.respond_owned(&self.challenge.numbers, &POLYNOMIAL, words, &self.key.numbers, drawn.y);
-        let outcome = responded.answer.map_err(|refusal| self.refused(refusal, n))?;
-        let end = if outcome.bit { "accepted" } else { "rejected" };
-        Ok(Try {
-            session: responded.session,
-            z: outcome.bit.then_some(responded.z),
-            list: [drawn.list, responded.list].concat(),
-            summary: format!("{summary}; response {end}: entries {}", outcome.entries),
-        })
+        let responded = noise.respond(&self.challenge.numbers, &POLYNOMIAL, words, &self.key.numbers);
+        let responded = responded.map_err(|error| match error {
+            CallError::Refused(refusal, _) => self.refused(refusal, n),
+            error => error.into(),
+        })?;
+        let end = if responded.z.is_some() { "accepted" } else { "rejected" };
+        let summary = format!("{summary}; response {end}: entries {}", responded.list.len());
+        list.extend(responded.list);
+        Ok(Try { session: responded.session, z: responded.z, list, summary })
     }
 
     /// A refused response, and what was wrong with what the command line gave it.

@@ -4,7 +4,7 @@ mod picture;
 
 use std::time::{Duration, Instant};
 
-use bliss_box::{draw_limit, sample_count, word_count, Counts, Entry, Kind, OwnedDraw, OwnedResponse, Secret, Session};
+use bliss_box::{draw_limit, draw_word_count, sample_count, Counts, Entry, Kind, Noise, OwnedDraw, OwnedResponse, Session};
 use bliss_box::{CDT, POLYNOMIAL, RESPOND_WORDS};
 
 use crate::arguments::{Arguments, Command, Operands};
@@ -73,33 +73,33 @@ fn run(arguments: &Arguments) -> Result<Status, Failure> {
 /// One try. A spent draw has no noise to respond with, so it is a try that fails.
 fn try_once(session: Session, number: usize) -> Result<(Session, Option<Shown>), Failure> {
     let (drawn, draw_time) = timed_draw(session)?;
-    let counts = drawn.answer?;
-    if !drawn.session.is_drawn() {
-        return Ok((drawn.session, None));
-    }
+    let noise = match drawn {
+        OwnedDraw::Full(noise) => noise,
+        OwnedDraw::Spent(spent) => return Ok((spent.session, None)),
+    };
     // The response wipes the noise, so what is shown of it is worked out before.
-    let (picture, deviation) = (Picture::of(&drawn.y), deviation(&drawn.y));
-    let (responded, respond_time) = timed_response(drawn.session, drawn.y, number)?;
-    let bit = responded.answer?.bit;
-    let list = [drawn.list, responded.list].concat();
-    let shown = Shown { counts, picture, deviation, draw_time, z: responded.z, respond_time, list };
-    Ok((responded.session, bit.then_some(shown)))
+    let (counts, picture, deviation) = (noise.counts(), Picture::of(noise.samples()), deviation(noise.samples()));
+    let draw_list = noise.list().to_vec();
+    let (responded, respond_time) = timed_response(noise, number)?;
+    let list = [draw_list, responded.list].concat();
+    let shown = responded.z.map(|z| Shown { counts, picture, deviation, draw_time, z, respond_time, list });
+    Ok((responded.session, shown))
 }
 
 fn timed_draw(session: Session) -> Result<(OwnedDraw, Duration), Failure> {
     let limit = draw_limit(session.degree());
-    let words = Words::System.take(word_count(limit), "a draw")?;
+    let words = Words::System.take(draw_word_count(limit), "a draw")?;
     let start = Instant::now();
-    let drawn = session.draw_owned(limit, &CDT, &POLYNOMIAL, words);
+    let drawn = session.draw_owned(limit, &CDT, &POLYNOMIAL, words)?;
     Ok((drawn, start.elapsed()))
 }
 
-fn timed_response(session: Session, y: Secret<i32>, number: usize) -> Result<(OwnedResponse, Duration), Failure> {
-    let n = session.degree();
+fn timed_response(noise: Noise, number: usize) -> Result<(OwnedResponse, Duration), Failure> {
+    let n = noise.degree();
     let (key, challenge) = (toy_key(n), toy_challenge(n, number));
     let words = Words::System.take(RESPOND_WORDS, "a response")?;
     let start = Instant::now();
-    let responded = session.respond_owned(&challenge, &POLYNOMIAL, words, &key, y);
+    let responded = noise.respond(&challenge, &POLYNOMIAL, words, &key)?;
     Ok((responded, start.elapsed()))
 }
 

@@ -1,7 +1,7 @@
 //! Read lists that the library wrote, explained; and damaged ones.
 
 use super::*;
-use bliss_box::{word_count, Secret, CDT, POLYNOMIAL, RESPOND_WORDS};
+use bliss_box::{OwnedDraw, Secret, CDT, POLYNOMIAL, RESPOND_WORDS};
 
 /// Words of an attempt that draws 1, which is accepted, or -0, which is not.
 fn words(bits: &str) -> Secret<u64> {
@@ -9,17 +9,27 @@ fn words(bits: &str) -> Secret<u64> {
     Secret::from(bits.chars().flat_map(|bit| [0, 0, word_2(bit), 0]).collect::<Vec<u64>>())
 }
 
-/// The read list of a draw at degree 4 with these accept bits, as many as the limit.
+/// A draw with these accept bits, as many as the limit.
+fn draw(n: usize, bits: &str) -> OwnedDraw {
+    Session::open(n).unwrap().draw_owned(bits.len(), &CDT, &POLYNOMIAL, words(bits)).unwrap()
+}
+
+/// The read list of such a draw at degree 4.
 fn drawn(bits: &str) -> Vec<u32> {
-    Session::open(4).unwrap().draw_owned(bits.len(), &CDT, &POLYNOMIAL, words(bits)).list
+    match draw(4, bits) {
+        OwnedDraw::Full(noise) => noise.list().to_vec(),
+        OwnedDraw::Spent(spent) => spent.list,
+    }
 }
 
 /// The read list of a response with words of 0, which is accepted, at degree `n`.
 fn responded(n: usize, challenge: &[u32]) -> Vec<u32> {
-    let drawn = Session::open(n).unwrap().draw_owned(2 * n, &CDT, &POLYNOMIAL, Secret::zeroed(word_count(2 * n)));
-    let key = vec![0; 2 * n];
-    let words = Secret::zeroed(RESPOND_WORDS);
-    drawn.session.respond_owned(challenge, &POLYNOMIAL, words, &key, drawn.y).list
+    match draw(n, &"1".repeat(2 * n)) {
+        OwnedDraw::Full(noise) => {
+            noise.respond(challenge, &POLYNOMIAL, Secret::zeroed(RESPOND_WORDS), &vec![0; 2 * n]).unwrap().list
+        }
+        OwnedDraw::Spent(_) => unreachable!("every attempt is accepted"),
+    }
 }
 
 /// A session's list: a full draw, and a response.
