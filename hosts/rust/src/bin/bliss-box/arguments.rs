@@ -4,10 +4,16 @@ use std::ffi::{OsStr, OsString};
 use std::fmt::Display;
 
 use crate::ending::{Failure, Status};
-use crate::numbers::{whole, Whole};
+use crate::numbers::{shown, whole, Whole};
 
 /// A file of this name is standard input, and for `--list` standard output.
 pub const STANDARD: &str = "-";
+
+/// The options that name a file which is read.
+const INPUTS: [&str; 4] = ["--key", "--challenge", "--cdt", "--words"];
+
+/// The options that name a file which is written.
+const OUTPUTS: [&str; 1] = ["--list"];
 
 /// A command of the program.
 pub struct Command {
@@ -19,24 +25,32 @@ pub struct Command {
     pub run: fn(&Arguments) -> Result<Status, Failure>,
 }
 
-/// What stands on a command line beside the options, by the name that the help gives it.
+/// What stands on a command line beside the options.
 #[derive(Clone, Copy)]
 pub enum Operands {
     None,
-    One(&'static str),
+    /// A file that is read.
+    File,
+    /// Values, by the name that the help gives them.
     OneOrMore(&'static str),
 }
+
+/// The name that the help gives to [`Operands::File`].
+const FILE: &str = "FILE";
 
 /// The command line of a command, with nothing in it that the command does not know.
 pub struct Arguments {
     command: String,
     options: Vec<(&'static str, OsString)>,
     operands: Vec<OsString>,
+    /// What the operands are.
+    kind: Operands,
 }
 
 impl Arguments {
     pub fn of(command: &Command, words: &[OsString]) -> Result<Arguments, Failure> {
-        let mut arguments = Arguments { command: format!("bliss-box {}", command.name), options: vec![], operands: vec![] };
+        let name = format!("bliss-box {}", command.name);
+        let mut arguments = Arguments { command: name, options: vec![], operands: vec![], kind: command.operands };
         let mut words = words.iter();
         while let Some(word) = words.next() {
             if !is_option(word) {
@@ -48,7 +62,7 @@ impl Arguments {
             let value = value.ok_or_else(|| arguments.wrong(format!("the option {name} needs a value")))?;
             arguments.options.push((name, value.clone()));
         }
-        arguments.check_operands(command.operands)?;
+        arguments.check_operands()?;
         arguments.check_standard_input()?;
         Ok(arguments)
     }
@@ -63,23 +77,43 @@ impl Arguments {
         }
     }
 
-    fn check_operands(&self, wanted: Operands) -> Result<(), Failure> {
-        match (wanted, self.operands.as_slice()) {
-            (Operands::None, [surplus, ..]) | (Operands::One(_), [_, surplus, ..]) => {
+    fn check_operands(&self) -> Result<(), Failure> {
+        match (self.kind, self.operands.as_slice()) {
+            (Operands::None, [surplus, ..]) | (Operands::File, [_, surplus, ..]) => {
                 Err(self.wrong(format!("{:?} is one argument too many", surplus.to_string_lossy())))
             }
-            (Operands::One(name) | Operands::OneOrMore(name), []) => Err(self.wrong(format!("{name} is missing"))),
+            (Operands::File, []) => Err(self.wrong(format!("{FILE} is missing"))),
+            (Operands::OneOrMore(name), []) => Err(self.wrong(format!("{name} is missing"))),
             _ => Ok(()),
         }
     }
 
     /// Standard input can be read once.
     fn check_standard_input(&self) -> Result<(), Failure> {
-        let reading = self.options.iter().filter(|(name, value)| *name != "--list" && value == STANDARD);
-        match reading.count() {
+        match self.inputs().into_iter().filter(|(_, path)| *path == STANDARD).count() {
             0 | 1 => Ok(()),
             _ => Err(self.wrong("standard input can be one file alone")),
         }
+    }
+
+    /// The files that are read, each by the name that it has on the command line.
+    pub fn inputs(&self) -> Vec<(&'static str, &OsStr)> {
+        let operands = match self.kind {
+            Operands::File => self.operands.as_slice(),
+            _ => &[],
+        };
+        let operands = operands.iter().map(|path| (FILE, path.as_os_str()));
+        self.files(&INPUTS).chain(operands).collect()
+    }
+
+    /// The files that are written.
+    pub fn outputs(&self) -> Vec<(&'static str, &OsStr)> {
+        self.files(&OUTPUTS).collect()
+    }
+
+    fn files<'a>(&'a self, options: &'a [&str]) -> impl Iterator<Item = (&'static str, &'a OsStr)> {
+        let given = self.options.iter().filter(|(name, _)| options.contains(name));
+        given.map(|(name, path)| (*name, path.as_os_str()))
     }
 
     pub fn operands(&self) -> &[OsString] {
@@ -96,8 +130,9 @@ impl Arguments {
 
     /// The whole number that an option has as its value.
     pub fn number<T: Whole>(&self, option: &str) -> Result<Option<T>, Failure> {
-        let number = self.value(option).map(|value| whole(&value.to_string_lossy()));
-        number.transpose().map_err(|problem| Failure::at(option, problem))
+        let Some(value) = self.value(option) else { return Ok(None) };
+        let text = value.to_string_lossy();
+        whole(&text).map(Some).map_err(|problem| Failure::at(option, problem.of(&shown(&text))))
     }
 
     fn wrong(&self, problem: impl Display) -> Failure {

@@ -9,7 +9,7 @@ use bliss_box::{CallError, Refusal};
 pub enum Status {
     /// What was asked for is done: a draw is full, a response is accepted.
     Served = 0,
-    /// The box refused, or a file or a value is bad.
+    /// The box refused, a file or a value is bad, or the output could not be written.
     Refused = 1,
     /// The command line is wrong.
     Usage = 2,
@@ -17,13 +17,15 @@ pub enum Status {
     Unserved = 3,
 }
 
-/// Why a command ends before it has printed anything.
+/// Why a command could not do what was asked.
 #[derive(Debug)]
 pub enum Failure {
     /// A refusal of the box, or what is wrong with a file or a value.
     Refused(String),
     /// What is wrong with the command line.
     Usage(String),
+    /// The reader of standard output has gone away. It has seen enough, so nothing is said, but not all was delivered.
+    Unread,
 }
 
 impl Failure {
@@ -39,8 +41,16 @@ impl Failure {
 
     pub fn status(&self) -> Status {
         match self {
-            Failure::Refused(_) => Status::Refused,
+            Failure::Refused(_) | Failure::Unread => Status::Refused,
             Failure::Usage(_) => Status::Usage,
+        }
+    }
+
+    /// What is said of it.
+    pub fn problem(&self) -> Option<&str> {
+        match self {
+            Failure::Refused(problem) | Failure::Usage(problem) => Some(problem),
+            Failure::Unread => None,
         }
     }
 }
@@ -54,12 +64,5 @@ impl<T> From<CallError<T>> for Failure {
 impl From<Refusal> for Failure {
     fn from(refusal: Refusal) -> Failure {
         Failure::Refused(refusal.to_string())
-    }
-}
-
-impl fmt::Display for Failure {
-    fn fmt(&self, f: &mut fmt::Formatter) -> fmt::Result {
-        let (Failure::Refused(problem) | Failure::Usage(problem)) = self;
-        f.write_str(problem)
     }
 }

@@ -4,7 +4,7 @@ use bliss_box::exponential;
 
 use crate::arguments::{Arguments, Command, Operands};
 use crate::ending::{Failure, Status};
-use crate::numbers::whole;
+use crate::numbers::{shown, whole};
 use crate::output;
 
 pub const COMMAND: Command = Command { name: "exp", options: &[], operands: Operands::OneOrMore("N"), help: HELP, run };
@@ -24,7 +24,7 @@ fn run(arguments: &Arguments) -> Result<Status, Failure> {
     let mut text = String::new();
     for operand in arguments.operands() {
         let operand = operand.to_string_lossy();
-        let n = whole(&operand).map_err(|problem| Failure::at("N", problem))?;
+        let n = whole(&operand).map_err(|problem| Failure::at("N", problem.of(&shown(&operand))))?;
         let e = exponential(n).map_err(|refusal| Failure::at(format!("N = {n}"), refusal))?;
         text += &format!("e({n}) = {e} units of 2^-62 = {}\n", fraction(e));
     }

@@ -11,14 +11,22 @@ use bliss_box::Secret;
 
 use crate::arguments::STANDARD;
 use crate::ending::Failure;
-use crate::numbers::{whole, Whole};
+use crate::numbers::{shown, whole_of_line, Whole};
 
 /// The longest line that a file may have, in bytes. It keeps what is no text from being read for ever.
 const LONGEST_LINE: usize = 4096;
 
+/// What a message says of a value in place of the value, where it is secret.
+const SECRET_VALUE: &str = "this value";
+
+/// A byte order mark, which some editors put at the start of a text.
+const BYTE_ORDER_MARK: char = '\u{feff}';
+
 /// A file of whole numbers, read one by one. Its text may be secret, so all memory for it is wiped.
 pub struct NumberFile {
     name: String,
+    /// Whether no message may show what is in it.
+    is_secret: bool,
     file: File,
     chunk: Secret<u8>,
     next: usize,
@@ -28,8 +36,17 @@ pub struct NumberFile {
 }
 
 impl NumberFile {
-    /// The file of this name; [`STANDARD`] is standard input.
-    pub fn open(path: &OsStr) -> Result<NumberFile, Failure> {
+    /// The file of this name, whose values messages may show; [`STANDARD`] is standard input.
+    pub fn public(path: &OsStr) -> Result<NumberFile, Failure> {
+        NumberFile::open(path, false)
+    }
+
+    /// The same for a file of secrets: messages name lines of it, and show no value.
+    pub fn secret(path: &OsStr) -> Result<NumberFile, Failure> {
+        NumberFile::open(path, true)
+    }
+
+    fn open(path: &OsStr, is_secret: bool) -> Result<NumberFile, Failure> {
         let name = if path == STANDARD { "standard input".into() } else { path.to_string_lossy().into_owned() };
         let file = if path == STANDARD {
             // Not through std's handle, which has a buffer that nobody wipes.
@@ -39,7 +56,7 @@ impl NumberFile {
         };
         let file = file.map_err(|error| unreadable(&name, error))?;
         let (chunk, line) = (Secret::zeroed(1 << 16), Secret::zeroed(LONGEST_LINE));
-        Ok(NumberFile { name, file, chunk, next: 0, end: 0, line, line_number: 0 })
+        Ok(NumberFile { name, is_secret, file, chunk, next: 0, end: 0, line, line_number: 0 })
     }
 
     pub fn name(&self) -> &str {
@@ -49,29 +66,15 @@ impl NumberFile {
     /// The next number of the file.
     pub fn number<T: Whole>(&mut self) -> Result<Option<T>, Failure> {
         while let Some(length) = self.line()? {
-            let text = str::from_utf8(&self.line[..length]).map_err(|_| self.here("this is not UTF-8 text"))?.trim();
+            let text = str::from_utf8(&self.line[..length]).map_err(|_| self.here("this is not UTF-8 text"))?;
+            let text = if self.line_number == 1 { text.strip_prefix(BYTE_ORDER_MARK).unwrap_or(text) } else { text };
+            let text = text.trim();
             if !text.is_empty() && !text.starts_with('#') {
-                return whole(text).map(Some).map_err(|problem| self.here(problem));
+                let said = || if self.is_secret { SECRET_VALUE.into() } else { shown(text) };
+                return whole_of_line(text).map(Some).map_err(|problem| self.here(problem.of(&said())));
             }
         }
         Ok(None)
-    }
-
-    /// All numbers that are left in the file, of which there must be some.
-    pub fn all<T: Whole>(mut self) -> Result<Secret<T>, Failure> {
-        let mut numbers = Secret::zeroed(64);
-        let mut count = 0;
-        while let Some(number) = self.number()? {
-            if count == numbers.len() {
-                numbers = resized(&numbers, 2 * count);
-            }
-            numbers[count] = number;
-            count += 1;
-        }
-        match count {
-            0 => Err(Failure::at(self.name, "there is no number in it")),
-            _ => Ok(resized(&numbers[..count], count)),
-        }
     }
 
     /// Reads the next line, without its end, and hands back its length.
@@ -114,27 +117,50 @@ fn unreadable(name: &str, error: io::Error) -> Failure {
     Failure::at(name, format!("cannot be read: {error}"))
 }
 
-/// A copy of another length, at least as long. The caller drops what it copies, which wipes it.
-fn resized<T: Whole>(numbers: &[T], length: usize) -> Secret<T> {
-    let mut copy = Secret::zeroed(length);
-    copy[..numbers.len()].copy_from_slice(numbers);
-    copy
+/// A file without a number, which is no table and no list.
+pub fn empty(name: &str) -> Failure {
+    Failure::at(name, "there is no number in it")
 }
 
-/// All numbers of a file, and where they are from.
+/// The numbers of a file, and where they stand.
 pub struct Table<T: Whole> {
-    pub name: String,
-    pub numbers: Secret<T>,
+    name: String,
+    numbers: Secret<T>,
+    /// The line of each number.
+    lines: Vec<usize>,
 }
 
 impl<T: Whole> Table<T> {
-    pub fn read(path: &OsStr) -> Result<Table<T>, Failure> {
-        let file = NumberFile::open(path)?;
-        Ok(Table { name: file.name().to_owned(), numbers: file.all()? })
+    /// Reads a table of at most so many numbers. It ends at the first number too many, since a file may have no end.
+    pub fn read(mut file: NumberFile, most: usize) -> Result<Table<T>, Failure> {
+        let mut numbers = Secret::zeroed(most + 1);
+        let mut lines = Vec::new();
+        while lines.len() < numbers.len() {
+            let Some(number) = file.number()? else { break };
+            numbers[lines.len()] = number;
+            lines.push(file.line_number);
+        }
+        match lines.len() {
+            0 => Err(empty(&file.name)),
+            _ => Ok(Table { name: file.name, numbers, lines }),
+        }
     }
 
-    /// How many numbers the table holds beside how many it must hold, for a message.
-    pub fn count_beside(&self, needed: usize) -> String {
-        format!("it holds {} values, and {needed} are needed", self.numbers.len())
+    pub fn name(&self) -> &str {
+        &self.name
+    }
+
+    pub fn numbers(&self) -> &[T] {
+        &self.numbers[..self.lines.len()]
+    }
+
+    /// The line of the number at an index.
+    pub fn line(&self, index: usize) -> usize {
+        self.lines[index]
+    }
+
+    /// Whether there was a number more than the table may have.
+    pub fn is_too_long(&self) -> bool {
+        self.lines.len() == self.numbers.len()
     }
 }

@@ -10,7 +10,10 @@ mod files;
 mod list;
 mod numbers;
 mod output;
+mod output_file;
+mod refused;
 mod respond;
+mod same_file;
 mod words;
 
 use std::env;
@@ -38,26 +41,33 @@ bliss-box: the BLISS-I sampling box from the command line
 
 Files hold whole numbers in decimal, one a line. Blank lines and lines that start with # are
 skipped, so that a table may say what it is. A value with a comma or a point in it is refused.
-A file named - is standard input.
+A file named - is standard input. No message shows a value of a key or a word.
+
+A file that is written is replaced once it is whole, and only its owner may read it. None of the
+files that are read is written.
 
 Exit status:
     0  served: the draw is full, the response is accepted
-    1  the box refused, or a file or a value is bad
+    1  the box refused, a file or a value is bad, or the output could not be written
     2  the command line is wrong
     3  the draw is spent, or every try of a response was rejected
-What is refused, bad or wrong prints nothing to standard output.
+What is refused, bad or wrong prints nothing to standard output. Two commands print as they go, so
+that what comes before stays printed: list the calls of a read list, respond --list - its tries.
 ";
 
 fn main() -> ExitCode {
     let words: Vec<OsString> = env::args_os().skip(1).collect();
     let status = run(&words).unwrap_or_else(|failure| {
-        output::say(&format!("bliss-box: {failure}"));
+        if let Some(problem) = failure.problem() {
+            output::say(&format!("bliss-box: {problem}"));
+        }
         failure.status()
     });
     ExitCode::from(status as u8)
 }
 
 fn run(words: &[OsString]) -> Result<Status, Failure> {
+    output::check()?;
     let Some((first, rest)) = words.split_first() else {
         return Err(Failure::usage("bliss-box", "a command is missing"));
     };
@@ -67,7 +77,11 @@ fn run(words: &[OsString]) -> Result<Status, Failure> {
         None if first == "--version" => VERSION,
         None => return Err(Failure::usage("bliss-box", format!("there is no command {:?}", first.to_string_lossy()))),
         Some(command) if rest.iter().any(|word| word == "--help") => command.help,
-        Some(command) => return (command.run)(&Arguments::of(command, rest)?),
+        Some(command) => {
+            let arguments = Arguments::of(command, rest)?;
+            same_file::check(&arguments)?;
+            return (command.run)(&arguments);
+        }
     };
     output::print(text)?;
     Ok(Status::Served)

@@ -1,63 +1,109 @@
 //! What is written: results to standard output, what is said beside them to standard error, and read lists to files.
 
-use std::ffi::OsStr;
 use std::fmt::Display;
-use std::fs;
+use std::fs::File;
 use std::io::{self, ErrorKind, Write};
+use std::os::fd::AsFd;
+use std::sync::atomic::{AtomicBool, Ordering};
 
 use bliss_box::Secret;
 
-use crate::arguments::STANDARD;
+use crate::arguments::{Arguments, STANDARD};
 use crate::ending::Failure;
+use crate::output_file::OutputFile;
 
 /// The longest line of a 32-bit number: a sign, ten digits and the line's end.
 const LONGEST_LINE: usize = 12;
+
+/// Whether standard output was closed when the program was started.
+static CLOSED: AtomicBool = AtomicBool::new(false);
+
+/// Before `main`, Rust's runtime opens /dev/null in the place of a standard output that is closed, and what is printed would be lost
+/// without an error. So this is called before the runtime.
+extern "C" fn look_at_standard_output() {
+    extern "C" {
+        fn fcntl(descriptor: i32, command: i32, ...) -> i32;
+    }
+    const F_GETFD: i32 = 1;
+    // SAFETY: the command takes no further argument, and any number as a descriptor.
+    let flags = unsafe { fcntl(1, F_GETFD) };
+    CLOSED.store(flags == -1, Ordering::Relaxed);
+}
+
+#[used]
+#[link_section = ".init_array"]
+static BEFORE_THE_RUNTIME: extern "C" fn() = look_at_standard_output;
+
+/// Whether there is a standard output at all.
+pub fn check() -> Result<(), Failure> {
+    match CLOSED.load(Ordering::Relaxed) {
+        true => Err(Failure::at("standard output", "it is closed")),
+        false => Ok(()),
+    }
+}
 
 /// Says a line on standard error. Nobody is left to be told where that fails.
 pub fn say(line: &str) {
     let _ = writeln!(io::stderr(), "{line}");
 }
 
-/// Prints all that a command has to print. A reader that has seen enough is no failure.
+/// Prints text to standard output.
 pub fn print(text: impl AsRef<[u8]>) -> Result<(), Failure> {
-    let mut output = io::stdout();
-    match output.write_all(text.as_ref()).and_then(|()| output.flush()) {
-        Err(error) if error.kind() != ErrorKind::BrokenPipe => Err(Failure::at("standard output", error)),
-        _ => Ok(()),
+    // Not through std's handle: it has a buffer that nobody wipes, and drops what a descriptor opened for reading alone can't take.
+    let output = io::stdout().as_fd().try_clone_to_owned().map(File::from);
+    match output.and_then(|mut output| output.write_all(text.as_ref())) {
+        Err(error) if error.kind() == ErrorKind::BrokenPipe => Err(Failure::Unread),
+        result => result.map_err(|error| Failure::at("standard output", error)),
     }
 }
 
-/// Prints numbers, one a line, and writes a read list to the file that was asked for, if any. On standard output the list takes the
-/// place of the numbers.
-pub fn deliver(numbers: &[i32], list: &[u32], list_file: Option<&OsStr>) -> Result<(), Failure> {
-    match list_file {
-        None => print_lines(numbers),
-        Some(file) if file == STANDARD => print_lines(list),
-        Some(file) => {
-            write_lines(file, list)?;
-            print_lines(numbers)
+/// Where the read lists of a command go.
+pub enum Lists {
+    Nowhere,
+    /// To standard output, in place of the numbers that the command prints.
+    Standard,
+    File(OutputFile),
+}
+
+impl Lists {
+    pub fn of(arguments: &Arguments) -> Result<Lists, Failure> {
+        Ok(match arguments.value("--list") {
+            None => Lists::Nowhere,
+            Some(path) if path == STANDARD => Lists::Standard,
+            Some(path) => Lists::File(OutputFile::create(path)?),
+        })
+    }
+
+    /// Adds the entries of calls, one a line.
+    pub fn add(&mut self, list: &[u32]) -> Result<(), Failure> {
+        match self {
+            Lists::Nowhere => Ok(()),
+            Lists::Standard => with_lines(list, |text| print(text)),
+            Lists::File(file) => with_lines(list, |text| file.write(text)),
+        }
+    }
+
+    /// Prints numbers, one a line, and keeps the lists.
+    pub fn deliver(self, numbers: &[i32]) -> Result<(), Failure> {
+        match self {
+            Lists::Nowhere => with_lines(numbers, |text| print(text)),
+            Lists::Standard => Ok(()),
+            Lists::File(file) => {
+                file.sync()?;
+                with_lines(numbers, |text| print(text))?;
+                file.keep()
+            }
         }
     }
 }
 
-fn print_lines<T: Display>(numbers: &[T]) -> Result<(), Failure> {
-    let (text, length) = lines(numbers);
-    print(&text[..length])
-}
-
-fn write_lines<T: Display>(file: &OsStr, numbers: &[T]) -> Result<(), Failure> {
-    let (text, length) = lines(numbers);
-    fs::write(file, &text[..length]).map_err(|error| Failure::at(file.to_string_lossy(), format!("cannot be written: {error}")))
-}
-
-/// 32-bit numbers, one a line, and the length of this text. The text of noise is as secret as the noise.
-fn lines<T: Display>(numbers: &[T]) -> (Secret<u8>, usize) {
+/// Writes 32-bit numbers, one a line. The text of noise is as secret as the noise.
+fn with_lines<T: Display>(numbers: &[T], write: impl FnOnce(&[u8]) -> Result<(), Failure>) -> Result<(), Failure> {
     let mut text = Secret::zeroed(LONGEST_LINE * numbers.len());
     let mut room = &mut text[..];
     for number in numbers {
         writeln!(room, "{number}").expect("a line is at most the longest");
     }
     let left = room.len();
-    let length = text.len() - left;
-    (text, length)
+    write(&text[..text.len() - left])
 }

@@ -1,12 +1,13 @@
 //! `bliss-box respond`: draws noise, and answers a challenge with it and a key.
 
-use bliss_box::{sample_count, CallError, OwnedDraw, Refusal, Session, POLYNOMIAL, RESPOND_WORDS};
+use bliss_box::{challenge_limit, sample_count, CallError, OwnedDraw, Refusal, Session, POLYNOMIAL, RESPOND_WORDS};
 
 use crate::arguments::{Arguments, Command, Operands};
 use crate::draw::{self, Drawing};
 use crate::ending::{Failure, Status};
-use crate::files::Table;
-use crate::output;
+use crate::files::{NumberFile, Table};
+use crate::output::{self, Lists};
+use crate::refused;
 
 pub const COMMAND: Command = Command {
     name: "respond",
@@ -31,11 +32,12 @@ try by try.
     --limit L           the attempts that each draw may make, as bliss-box draw has it
     --cdt FILE          the CDT, as bliss-box draw has it
     --words FILE        random words: each try takes the next 4L for its draw and the next 3 for its
-                        response (the system's random source)
+                        response (the system's random source). A file used twice makes the same
+                        noise twice, and two responses over one noise give the key away
     --tries T           the tries that may be made (64, which all fail with a chance below 2^-64
                         unless the product of key and challenge is too long to be accepted at all)
     --list FILE         writes the read list of all tries there, one entry a line; - writes it to
-                        standard output in place of the response
+                        standard output in place of the response, try by try
 
 This command is for trying the box and its tables. It is not a signer: in a signature the challenge
 hashes what the noise commits to, so a signer makes a new challenge for each try.
@@ -75,10 +77,11 @@ impl Responding {
             OwnedDraw::Spent(spent) => return Ok(Try { session: spent.session, z: None, list: spent.list, summary }),
         };
         let (n, mut list) = (noise.degree(), noise.list().to_vec());
-        let words = self.drawing.words().take(RESPOND_WORDS, "a response")?;
-        let responded = noise.respond(&self.challenge.numbers, &POLYNOMIAL, words, &self.key.numbers);
+        let words = self.drawing.words.take(RESPOND_WORDS)?;
+        let lent = words.len();
+        let responded = noise.respond(self.challenge.numbers(), &POLYNOMIAL, words, self.key.numbers());
         let responded = responded.map_err(|error| match error {
-            CallError::Refused(refusal, _) => self.refused(refusal, n),
+            CallError::Refused(refusal, _) => self.refused(refusal, n, lent),
             error => error.into(),
         })?;
         let end = if responded.z.is_some() { "accepted" } else { "rejected" };
@@ -87,14 +90,17 @@ impl Responding {
         Ok(Try { session: responded.session, z: responded.z, list, summary })
     }
 
-    /// A refused response, and what was wrong with what the command line gave it.
-    fn refused(&self, refusal: Refusal, n: usize) -> Failure {
-        match refusal {
-            Refusal::Lengths => Failure::at(&self.key.name, format!("{refusal}; {}", self.key.count_beside(sample_count(n)))),
-            Refusal::Key => Failure::at(&self.key.name, refusal),
-            Refusal::Challenge => Failure::at(&self.challenge.name, refusal),
-            _ => refusal.into(),
-        }
+    /// A refused response that was lent so many words, and what was wrong with what the command line gave it.
+    fn refused(&self, refusal: Refusal, n: usize, words: usize) -> Failure {
+        let breach = match refusal {
+            Refusal::Lengths => refused::wrong_length(&self.key, sample_count(n)),
+            Refusal::Challenge => refused::broken_challenge(&self.challenge, n),
+            Refusal::Words => refused::too_few_words(&self.drawing.words, "a response", RESPOND_WORDS, words),
+            // Which value it is, is secret.
+            Refusal::Key => return Failure::at(self.key.name(), refusal),
+            _ => None,
+        };
+        refused::refused(refusal, breach)
     }
 }
 
@@ -107,24 +113,26 @@ fn tries(arguments: &Arguments) -> Result<usize, Failure> {
 
 fn run(arguments: &Arguments) -> Result<Status, Failure> {
     let (key, challenge) = (arguments.required("--key")?, arguments.required("--challenge")?);
-    let (tries, list_file) = (tries(arguments)?, arguments.value("--list"));
+    let tries = tries(arguments)?;
     let mut session = draw::open(arguments)?;
-    let drawing = Drawing::of(arguments, &session)?;
-    let mut responding = Responding { drawing, key: Table::read(key)?, challenge: Table::read(challenge)? };
-    let mut list = Vec::new();
+    let n = session.degree();
+    let mut responding = Responding {
+        drawing: Drawing::of(arguments, &session)?,
+        key: Table::read(NumberFile::secret(key)?, sample_count(n))?,
+        challenge: Table::read(NumberFile::public(challenge)?, challenge_limit(n))?,
+    };
+    let mut lists = Lists::of(arguments)?;
     for number in 1..=tries {
         let tried = responding.once(session)?;
         session = tried.session;
         output::say(&format!("try {number}: {}", tried.summary));
-        if list_file.is_some() {
-            list.extend(tried.list);
-        }
+        lists.add(&tried.list)?;
         if let Some(z) = tried.z {
-            output::deliver(&z, &list, list_file)?;
+            lists.deliver(&z)?;
             return Ok(Status::Served);
         }
     }
-    output::deliver(&[], &list, list_file)?;
+    lists.deliver(&[])?;
     output::say(&format!("no response accepted: tries {tries}. {NEVER_ACCEPTED}"));
     Ok(Status::Unserved)
 }

@@ -19,12 +19,12 @@ impl Words {
     pub fn of(path: Option<&OsStr>) -> Result<Words, Failure> {
         Ok(match path {
             None => Words::System,
-            Some(path) => Words::File(NumberFile::open(path)?),
+            Some(path) => Words::File(NumberFile::secret(path)?),
         })
     }
 
-    /// The next `count` words, for a call that a message can name.
-    pub fn take(&mut self, count: usize, call: &str) -> Result<Secret<u64>, Failure> {
+    /// The next `count` words, or as many as a file has left.
+    pub fn take(&mut self, count: usize) -> Result<Secret<u64>, Failure> {
         let file = match self {
             Words::System => {
                 return Secret::system_words(count).map_err(|error| Failure::at("the system's random source", error))
@@ -32,11 +32,20 @@ impl Words {
             Words::File(file) => file,
         };
         let mut words = Secret::zeroed(count);
-        for left in 0..count {
-            words[left] = file
-                .number()?
-                .ok_or_else(|| Failure::at(file.name(), format!("{call} needs {count} words, and {left} are left in it")))?;
+        for taken in 0..count {
+            match file.number()? {
+                Some(word) => words[taken] = word,
+                None => return Ok(Secret::from(words[..taken].to_vec())),
+            }
         }
         Ok(words)
+    }
+
+    /// The name of the file.
+    pub fn file_name(&self) -> Option<&str> {
+        match self {
+            Words::System => None,
+            Words::File(file) => Some(file.name()),
+        }
     }
 }

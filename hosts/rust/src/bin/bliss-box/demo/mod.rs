@@ -88,7 +88,7 @@ fn try_once(session: Session, number: usize) -> Result<(Session, Option<Shown>),
 
 fn timed_draw(session: Session) -> Result<(OwnedDraw, Duration), Failure> {
     let limit = draw_limit(session.degree());
-    let words = Words::System.take(draw_word_count(limit), "a draw")?;
+    let words = Words::System.take(draw_word_count(limit))?;
     let start = Instant::now();
     let drawn = session.draw_owned(limit, &CDT, &POLYNOMIAL, words)?;
     Ok((drawn, start.elapsed()))
@@ -97,7 +97,7 @@ fn timed_draw(session: Session) -> Result<(OwnedDraw, Duration), Failure> {
 fn timed_response(noise: Noise, number: usize) -> Result<(OwnedResponse, Duration), Failure> {
     let n = noise.degree();
     let (key, challenge) = (toy_key(n), toy_challenge(n, number));
-    let words = Words::System.take(RESPOND_WORDS, "a response")?;
+    let words = Words::System.take(RESPOND_WORDS)?;
     let start = Instant::now();
     let responded = noise.respond(&challenge, &POLYNOMIAL, words, &key)?;
     Ok((responded, start.elapsed()))

@@ -6,6 +6,7 @@ use std::ops::RangeInclusive;
 use bliss_box::{sample_count, Entry, Kind, CDT};
 
 use super::entries::Entries;
+use crate::ending::Failure;
 
 /// The accept bits that are printed on a line.
 const BITS_A_LINE: usize = 64;
@@ -21,9 +22,9 @@ struct Draw {
 }
 
 /// Explains a draw of degree `n` from its second entry on. Returns whether it is full.
-pub fn explain(entries: &mut Entries, n: usize) -> Result<bool, String> {
+pub fn explain(entries: &mut Entries, n: usize) -> Result<bool, Failure> {
     let mut draw = Draw { n, attempts: 0, accepted: 0, bits: vec![] };
-    while !draw.ends(entries) {
+    while !draw.ends(entries)? {
         draw.take_reads(entries)?;
         draw.take_count(entries, Kind::AcceptedBefore)?;
         draw.attempts += 1;
@@ -35,16 +36,16 @@ pub fn explain(entries: &mut Entries, n: usize) -> Result<bool, String> {
 
 impl Draw {
     /// Whether no further attempt follows. A draw makes 2n to 32n of them.
-    fn ends(&self, entries: &Entries) -> bool {
-        let counted = entries.next().is_some_and(|entry| entry.kind() == Some(Kind::Accepted));
-        self.attempts == 32 * self.n || self.attempts >= 2 * self.n && counted
+    fn ends(&self, entries: &mut Entries) -> Result<bool, Failure> {
+        let counted = entries.next()?.is_some_and(|entry| entry.kind() == Some(Kind::Accepted));
+        Ok(self.attempts == 32 * self.n || self.attempts >= 2 * self.n && counted)
     }
 
     fn is_full(&self) -> bool {
         self.accepted == sample_count(self.n)
     }
 
-    fn take_reads(&self, entries: &mut Entries) -> Result<(), String> {
+    fn take_reads(&self, entries: &mut Entries) -> Result<(), Failure> {
         let t = self.attempts;
         let uses = [
             format!("high half of attempt {t}'s draw"),
@@ -63,7 +64,7 @@ impl Draw {
     }
 
     /// Explains a count of accepted samples, which tells the accept bit of the attempt before it.
-    fn take_count(&mut self, entries: &mut Entries, kind: Kind) -> Result<(), String> {
+    fn take_count(&mut self, entries: &mut Entries, kind: Kind) -> Result<(), Failure> {
         let counts = self.next_counts(kind);
         let expected: Vec<String> = counts.clone().map(|count| Entry::new(kind, count).to_string()).collect();
         let expected = format!("{}, the samples accepted so far,", expected.join(" or "));

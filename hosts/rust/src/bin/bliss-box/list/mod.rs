@@ -6,15 +6,17 @@ mod response;
 #[cfg(test)]
 mod tests;
 
+use std::iter;
+
 use bliss_box::{Entry, Kind, Session};
 
 use crate::arguments::{Arguments, Command, Operands};
 use crate::ending::{Failure, Status};
-use crate::files::Table;
+use crate::files::{self, NumberFile};
 use crate::output;
 use entries::Entries;
 
-pub const COMMAND: Command = Command { name: "list", options: &[], operands: Operands::One("FILE"), help: HELP, run };
+pub const COMMAND: Command = Command { name: "list", options: &[], operands: Operands::File, help: HELP, run };
 
 const HELP: &str = "\
 bliss-box list FILE
@@ -25,41 +27,47 @@ The file holds the read list of one call, or those of a session's calls, one aft
 
 Whoever reads a read list learns the degree, which attempts were accepted, the challenge, and
 whether the response was accepted; these are printed again at the end of each call. An entry that
-cannot stand where it stands is an error. bliss-box --help says what files hold.
+cannot stand where it stands is an error. Each call is printed once it is read whole, so that the
+calls before the error are printed too. bliss-box --help says what files hold.
 ";
 
 fn run(arguments: &Arguments) -> Result<Status, Failure> {
-    let list = Table::read(&arguments.operands()[0])?;
-    let text = explanation(&list.numbers).map_err(|problem| Failure::at(list.name, problem))?;
-    output::print(text)?;
+    let mut file = NumberFile::public(&arguments.operands()[0])?;
+    let name = file.name().to_owned();
+    let mut source = iter::from_fn(|| file.number().transpose());
+    let mut entries = Entries::of(&name, &mut source);
+    if entries.next()?.is_none() {
+        return Err(files::empty(&name));
+    }
+    explain(&mut entries, output::print)?;
     Ok(Status::Served)
 }
 
-/// A read list in words, or what is wrong with it.
-fn explanation(list: &[u32]) -> Result<String, String> {
-    let mut entries = Entries::of(list);
+/// Puts a read list in words, call by call: no more than one call is held, and what stands before a damaged one is printed.
+fn explain(entries: &mut Entries, mut print: impl FnMut(String) -> Result<(), Failure>) -> Result<(), Failure> {
     let mut degree = None;
     // The list of a response may stand alone. In a session a response follows a full draw.
     let mut may_respond = true;
-    while entries.next().is_some() {
+    while entries.next()?.is_some() {
         if degree.is_some() {
             entries.say("\n");
         }
-        let first = beginning(&mut entries, degree, may_respond)?;
+        let first = beginning(entries, degree, may_respond)?;
         degree = Some(first.place());
         may_respond = match first.kind() {
-            Some(Kind::Draw) => draw::explain(&mut entries, first.place())?,
+            Some(Kind::Draw) => draw::explain(entries, first.place())?,
             _ => {
-                response::explain(&mut entries, first.place())?;
+                response::explain(entries, first.place())?;
                 false
             }
         };
+        print(entries.take_text())?;
     }
-    Ok(entries.explained())
+    Ok(())
 }
 
 /// Explains the first entry of a call. The degree is the one of the calls before, if there are any.
-fn beginning(entries: &mut Entries, degree: Option<usize>, may_respond: bool) -> Result<Entry, String> {
+fn beginning(entries: &mut Entries, degree: Option<usize>, may_respond: bool) -> Result<Entry, Failure> {
     let fits = |entry: Entry| {
         let right_degree = degree.map_or(Session::open(entry.place()).is_ok(), |degree| entry.place() == degree);
         right_degree && (entry.kind() == Some(Kind::Draw) || entry.kind() == Some(Kind::Response) && may_respond)

@@ -3,6 +3,7 @@
 use bliss_box::{challenge_limit, Entry, Kind};
 
 use super::entries::Entries;
+use crate::ending::Failure;
 
 /// What the words of a response are for.
 const USES: [&str; 3] =
@@ -12,8 +13,8 @@ const USES: [&str; 3] =
 const POSITIONS_A_LINE: usize = 16;
 
 /// Explains a response of degree `n` from its second entry on.
-pub fn explain(entries: &mut Entries, n: usize) -> Result<(), String> {
-    let challenge = challenge(entries, n);
+pub fn explain(entries: &mut Entries, n: usize) -> Result<(), Failure> {
+    let challenge = challenge(entries, n)?;
     if challenge.is_empty() {
         let [first, last] = [0, n - 1].map(|place| Entry::new(Kind::Key, place));
         return Err(entries.unexpected(format_args!("a key value of s1, {first} to {last},")));
@@ -35,12 +36,13 @@ pub fn explain(entries: &mut Entries, n: usize) -> Result<(), String> {
 ///
 /// They ascend, so that output 0 ends where they would not. In one case they go on to ascend: where position 0 is in the challenge,
 /// output 1 begins with key value 1, which output 0 reads for position n - 1. Output 0 has read it only if output 1 reads it again.
-fn challenge(entries: &Entries, n: usize) -> Vec<usize> {
-    let of_s1 = entries.rest().take_while(|entry| entry.kind() == Some(Kind::Key) && entry.place() < n);
+fn challenge(entries: &mut Entries, n: usize) -> Result<Vec<usize>, Failure> {
+    let most = challenge_limit(n);
+    let of_s1 = entries.ahead(most + 1)?.take_while(|entry| entry.kind() == Some(Kind::Key) && entry.place() < n);
     let mut key_values = of_s1.map(Entry::place).peekable();
     let mut challenge: Vec<usize> = Vec::new();
     while let Some(position) = key_values.peek().map(|index| (n - index) % n) {
-        if challenge.len() == challenge_limit(n) || challenge.last().is_some_and(|last| position <= *last) {
+        if challenge.len() == most || challenge.last().is_some_and(|last| position <= *last) {
             break;
         }
         challenge.push(position);
@@ -49,11 +51,11 @@ fn challenge(entries: &Entries, n: usize) -> Vec<usize> {
     if challenge.first() == Some(&0) && challenge.last() == Some(&(n - 1)) && key_values.next() != Some(1) {
         challenge.pop();
     }
-    challenge
+    Ok(challenge)
 }
 
 /// Explains the key values that one output of the product reads. Outputs 0 to n - 1 read s1, and the others s2.
-fn take_key_values(entries: &mut Entries, n: usize, output: usize, challenge: &[usize]) -> Result<(), String> {
+fn take_key_values(entries: &mut Entries, n: usize, output: usize, challenge: &[usize]) -> Result<(), Failure> {
     let (half, i) = (output / n, output % n);
     for c in challenge {
         let index = if i >= *c { i - c } else { i + n - c };
@@ -64,7 +66,7 @@ fn take_key_values(entries: &mut Entries, n: usize, output: usize, challenge: &[
 }
 
 /// Explains the last entry, and says what it tells.
-fn take_bit(entries: &mut Entries) -> Result<&'static str, String> {
+fn take_bit(entries: &mut Entries) -> Result<&'static str, Failure> {
     let bits = [0, 1].map(|bit| Entry::new(Kind::Bit, bit));
     let end = |entry| if entry == bits[1] { "accepted" } else { "rejected" };
     let entry = entries.take(

@@ -3,6 +3,20 @@
 use super::*;
 use bliss_box::{OwnedDraw, Secret, CDT, POLYNOMIAL, RESPOND_WORDS};
 
+/// A read list in words, or what is wrong with it.
+fn explanation(list: &[u32]) -> Result<String, String> {
+    let mut text = String::new();
+    let mut source = list.iter().map(|entry| Ok(*entry));
+    let explained = explain(&mut Entries::of("list", &mut source), |call| {
+        text += &call;
+        Ok(())
+    });
+    match explained {
+        Ok(()) => Ok(text),
+        Err(failure) => Err(failure.problem().unwrap().strip_prefix("list: ").unwrap().to_owned()),
+    }
+}
+
 /// Words of an attempt that draws 1, which is accepted, or -0, which is not.
 fn words(bits: &str) -> Secret<u64> {
     let word_2 = |bit| if bit == '1' { 1 } else { 256 };

@@ -1,0 +1,150 @@
+//! The program bliss-box, run on good and bad input: what it prints, what it says, and its exit status.
+
+mod arguments;
+mod demo;
+mod draw;
+mod exp;
+mod files;
+mod list;
+mod output;
+// The other tests use all of it.
+#[allow(dead_code)]
+#[path = "../random/mod.rs"]
+mod random;
+mod refusals;
+mod respond;
+
+use std::fs;
+use std::io::Write;
+use std::process::{Child, Command, Stdio};
+
+use bliss_box::{draw_word_count, Noise, OwnedDraw, Secret, Session, POLYNOMIAL};
+use random::Random;
+
+/// What a run of the program left.
+struct Ran {
+    status: i32,
+    out: String,
+    err: String,
+}
+
+fn program(arguments: &[&str]) -> Command {
+    let mut program = Command::new(env!("CARGO_BIN_EXE_bliss-box"));
+    program.args(arguments).stdin(Stdio::null()).stdout(Stdio::piped()).stderr(Stdio::piped());
+    program
+}
+
+/// The program under a shell's script, which has it as "$0" and its arguments as "$@".
+fn program_by(script: &str, arguments: &[&str]) -> Command {
+    let mut shell = Command::new("sh");
+    shell.args(["-c", script, env!("CARGO_BIN_EXE_bliss-box")]).args(arguments);
+    shell.stdin(Stdio::null()).stdout(Stdio::piped()).stderr(Stdio::piped());
+    shell
+}
+
+fn run(arguments: &[&str]) -> Ran {
+    ended(program(arguments).spawn().unwrap())
+}
+
+fn ended(child: Child) -> Ran {
+    let output = child.wait_with_output().unwrap();
+    let [out, err] = [output.stdout, output.stderr].map(|text| String::from_utf8(text).unwrap());
+    Ran { status: output.status.code().unwrap(), out, err }
+}
+
+/// Runs the program with this on its standard input.
+fn run_with(input: &str, arguments: &[&str]) -> Ran {
+    let mut child = program(arguments).stdin(Stdio::piped()).spawn().unwrap();
+    child.stdin.take().unwrap().write_all(input.as_bytes()).unwrap();
+    ended(child)
+}
+
+/// Runs a program with this on its standard input again and again. A run that does not end by itself is given ten megabytes.
+fn run_endless(mut program: Command, input: &str) -> Ran {
+    let mut child = program.stdin(Stdio::piped()).spawn().unwrap();
+    let mut stdin = child.stdin.take().unwrap();
+    let ended_itself = (0..10_000_000 / input.len()).any(|_| stdin.write_all(input.as_bytes()).is_err());
+    drop(stdin);
+    let ran = ended(child);
+    assert!(ended_itself, "all was read: {}", ran.err);
+    ran
+}
+
+/// What a run prints that is served, and says nothing.
+fn printed(arguments: &[&str]) -> String {
+    let ran = run(arguments);
+    assert_eq!((ran.status, ran.err.as_str()), (0, ""), "{arguments:?}");
+    ran.out
+}
+
+/// A run that fails with this status, prints nothing, and says this.
+fn fails(arguments: &[&str], status: i32, problem: &str) {
+    let ran = run(arguments);
+    assert_eq!((ran.status, ran.out.as_str(), ran.err), (status, "", format!("bliss-box: {problem}\n")), "{arguments:?}");
+}
+
+/// A path of a file for this test alone.
+fn path(name: &str) -> String {
+    format!("{}/{name}", env!("CARGO_TARGET_TMPDIR"))
+}
+
+fn file(name: &str, content: impl AsRef<[u8]>) -> String {
+    let path = path(name);
+    fs::write(&path, content).unwrap();
+    path
+}
+
+/// An empty folder for a test of this name.
+fn folder(name: &str) -> String {
+    let path = path(name);
+    let _ = fs::remove_dir_all(&path);
+    fs::create_dir(&path).unwrap();
+    path
+}
+
+/// The names in a folder, in order.
+fn names_in(folder: &str) -> Vec<String> {
+    let names = fs::read_dir(folder).unwrap().map(|entry| entry.unwrap().file_name().into_string().unwrap());
+    let mut names: Vec<String> = names.collect();
+    names.sort();
+    names
+}
+
+fn lines<T: ToString>(numbers: &[T]) -> String {
+    numbers.iter().map(|number| number.to_string() + "\n").collect()
+}
+
+fn random_words(seed: u64, count: usize) -> Vec<u64> {
+    let mut random = Random::new(seed);
+    (0..count).map(|_| random.word()).collect()
+}
+
+/// What a run says that has drawn with a file of words, and then says this.
+fn warned(words: &str, said: &str) -> String {
+    let twice = "words used twice make the same noise twice, and two responses over one noise give the key away";
+    format!("bliss-box: warning: {words}: {twice}\n{said}")
+}
+
+/// Words of attempts with these accept bits: each draws 1, which is accepted, or -0, which is not.
+fn words_with(bits: &str) -> Vec<u64> {
+    bits.chars().flat_map(|bit| [0, 0, if bit == '1' { 1 } else { 256 }, 0]).collect()
+}
+
+/// The noise that the library draws with these words.
+fn library_draw(session: Session, limit: usize, cdt: &[u64], words: &[u64]) -> Noise {
+    match session.draw_owned(limit, cdt, &POLYNOMIAL, Secret::from(words[..draw_word_count(limit)].to_vec())) {
+        Ok(OwnedDraw::Full(noise)) => noise,
+        other => panic!("{other:?}"),
+    }
+}
+
+fn open(n: usize) -> Session {
+    Session::open(n).unwrap()
+}
+
+const KEY: [i32; 8] = [1, 2, 3, 4, -1, 0, 7, -7];
+
+/// A key and a challenge in files, for a test of this name.
+fn key_and_challenge(name: &str) -> [String; 2] {
+    [file(&format!("{name}-key"), lines(&KEY)), file(&format!("{name}-challenge"), lines(&[0, 3]))]
+}

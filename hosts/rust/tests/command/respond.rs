@@ -1,0 +1,84 @@
+//! `bliss-box respond`.
+
+use bliss_box::{draw_limit, CDT, RESPOND_WORDS};
+
+use super::*;
+
+/// Words for a draw, and these for the response, of which word 1 of all ones rejects.
+fn words_of_a_try(seed: u64, respond_words: [u64; RESPOND_WORDS]) -> Vec<u64> {
+    [random_words(seed, draw_word_count(draw_limit(4))), respond_words.to_vec()].concat()
+}
+
+#[test]
+fn responses_are_the_librarys() {
+    let tries = [words_of_a_try(5, [1, u64::MAX, 0]), words_of_a_try(6, [0, u64::MAX, 0]), words_of_a_try(7, [1, 0, 0])];
+    let mut session = Session::open(4).unwrap();
+    let (mut list, mut z) = (vec![], None);
+    for words in &tries {
+        let (draw_words, words) = words.split_at(draw_word_count(draw_limit(4)));
+        let noise = library_draw(session, draw_limit(4), &CDT, draw_words);
+        list.extend(noise.list());
+        let responded = noise.respond(&[0, 3], &POLYNOMIAL, Secret::from(words.to_vec()), &KEY).unwrap();
+        session = responded.session;
+        list.extend(responded.list);
+        z = responded.z;
+    }
+    let z = z.expect("the third is accepted");
+
+    let ([key, challenge], list_file) = (key_and_challenge("respond"), path("respond-list"));
+    let words = file("respond-words", lines(&tries.concat()));
+    let with = ["respond", "--degree", "4", "--key", &key, "--challenge", &challenge, "--words", &words];
+    let ran = run(&[&with[..], &["--list", &list_file]].concat());
+    assert_eq!((ran.status, ran.out), (0, lines(&z)));
+    assert_eq!(fs::read_to_string(list_file).unwrap(), lines(&list));
+    let said: Vec<&str> = ran.err.lines().collect();
+    assert_eq!(said.len(), 4);
+    assert!(said[0].starts_with("bliss-box: warning: "));
+    assert!(said[2].starts_with("try 2: draw full: attempts ") && said[2].ends_with("; response rejected: entries 63"));
+    assert!(said[3].starts_with("try 3: draw full: attempts ") && said[3].ends_with("; response accepted: entries 63"));
+
+    let ran = run(&[&with[..], &["--tries", "2", "--list", "-"]].concat());
+    assert_eq!(ran.status, 3);
+    assert!(list.starts_with(&ran.out.lines().map(|line| line.parse().unwrap()).collect::<Vec<u32>>()));
+    assert!(ran.err.contains("\nno response accepted: tries 2. "));
+}
+
+#[test]
+fn responses_from_the_system_are_accepted_in_some_try() {
+    let [key, challenge] = key_and_challenge("system");
+    let ran = run(&["respond", "--degree", "4", "--key", &key, "--challenge", &challenge]);
+    assert_eq!((ran.status, ran.out.lines().count()), (0, 8));
+    assert!(ran.err.ends_with("; response accepted: entries 63\n"));
+}
+
+#[test]
+fn long_products_are_never_accepted() {
+    let (key, challenge) = (file("long-key", lines(&[7; 1024])), file("long-challenge", lines(&(0..64).collect::<Vec<_>>())));
+    let ran = run(&["respond", "--key", &key, "--challenge", &challenge, "--tries", "3"]);
+    assert_eq!((ran.status, ran.out.as_str(), ran.err.matches("; response rejected: ").count()), (3, "", 3));
+    assert!(ran.err.ends_with("whose sum of squares is above 46225 is never accepted.\n"));
+}
+
+#[test]
+fn a_spent_draw_is_a_try_that_fails() {
+    let [key, challenge] = key_and_challenge("spent-try");
+    let words = [words_with("11111110"), words_with("11111111"), vec![0; RESPOND_WORDS]].concat();
+    let words = file("spent-try-words", lines(&words));
+    let with = ["respond", "--degree", "4", "--limit", "8", "--key", &key, "--challenge", &challenge, "--words", &words];
+    let ran = run(&with);
+    assert_eq!((ran.status, ran.out.lines().count()), (0, 8));
+    assert!(ran.err.starts_with(&warned(&words, "try 1: draw spent: attempts 8, accepted 7, entries 370\n")));
+    assert_eq!(run(&[&with[..], &["--tries", "1"]].concat()).status, 3);
+}
+
+/// A try of this challenge at degree 512 has half a megabyte of entries, and a megabyte of lines for them.
+#[test]
+fn lists_of_many_tries_take_no_more_memory_than_one() {
+    let (key, challenge) = (file("many-key", lines(&[7; 1024])), file("many-challenge", lines(&(0..64).collect::<Vec<_>>())));
+    let list = path("many-list");
+    let with = ["respond", "--key", &key, "--challenge", &challenge, "--tries", "60", "--list", &list];
+    let ran = ended(program_by("ulimit -v 20000; exec \"$0\" \"$@\"", &with).spawn().unwrap());
+    assert_eq!((ran.status, ran.out.as_str()), (3, ""), "{}", ran.err);
+    let rejected = (9 << 24).to_string();
+    assert_eq!(fs::read_to_string(list).unwrap().lines().filter(|line| *line == rejected).count(), 60);
+}
