@@ -177,7 +177,11 @@ fn what_cannot_be_written_is_said() {
     let loops = format!("{folder}/loop");
     symlink("loop", &loops).unwrap();
     unwritten(&loops, "Too many levels of symbolic links (os error 40)");
-    assert_eq!(names_in(&folder), ["loop"]);
+    // A program that runs may not be written, whoever owns it.
+    let running = format!("{folder}/running");
+    fs::hard_link(env!("CARGO_BIN_EXE_bliss-box"), &running).unwrap();
+    unwritten(&running, "Text file busy (os error 26)");
+    assert_eq!(names_in(&folder), ["loop", "running"]);
 
     let full = OpenOptions::new().write(true).open("/dev/full").unwrap();
     let ran = ended(program(&["draw"]).stdout(full).spawn().unwrap());

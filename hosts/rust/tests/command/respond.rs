@@ -76,9 +76,10 @@ fn a_spent_draw_is_a_try_that_fails() {
 fn lists_of_many_tries_take_no_more_memory_than_one() {
     let (key, challenge) = (file("many-key", lines(&[7; 1024])), file("many-challenge", lines(&(0..64).collect::<Vec<_>>())));
     let list = path("many-list");
-    let with = ["respond", "--key", &key, "--challenge", &challenge, "--tries", "60", "--list", &list];
+    let with = ["respond", "--key", &key, "--challenge", &challenge, "--tries", "30", "--list", &list];
     let ran = ended(program_by("ulimit -v 20000; exec \"$0\" \"$@\"", &with).spawn().unwrap());
     assert_eq!((ran.status, ran.out.as_str()), (3, ""), "{}", ran.err);
     let rejected = (9 << 24).to_string();
-    assert_eq!(fs::read_to_string(list).unwrap().lines().filter(|line| *line == rejected).count(), 60);
+    assert_eq!(fs::read_to_string(&list).unwrap().lines().filter(|line| *line == rejected).count(), 30);
+    fs::remove_file(list).unwrap();
 }

@@ -43,16 +43,16 @@ Files hold whole numbers in decimal, one a line. Blank lines and lines that star
 skipped, so that a table may say what it is. A value with a comma or a point in it is refused.
 A file named - is standard input. No message shows a value of a key or a word.
 
-A file that is written is replaced once it is whole, and only its owner may read it. None of the
-files that are read is written.
+A file that is written must be none of those that are read. It is put in its place once it is
+whole, and only its owner may read it.
 
 Exit status:
     0  served: the draw is full, the response is accepted
     1  the box refused, a file or a value is bad, or the output could not be written
     2  the command line is wrong
     3  the draw is spent, or every try of a response was rejected
-What is refused, bad or wrong prints nothing to standard output. Two commands print as they go, so
-that what comes before stays printed: list the calls of a read list, respond --list - its tries.
+What is refused, bad or wrong prints nothing to standard output. But list prints call by call, and
+respond --list - try by try, and what they have printed before stays.
 ";
 
 fn main() -> ExitCode {

@@ -60,9 +60,14 @@ impl Drop for Beside {
 
 fn open(path: &Path) -> io::Result<(File, Option<Beside>)> {
     match fs::metadata(path) {
-        Ok(metadata) if metadata.is_file() => create_beside(fs::canonicalize(path)?),
-        // A directory can't be opened for writing, and the error says so.
-        Ok(_) => Ok((OpenOptions::new().write(true).open(path)?, None)),
+        Ok(metadata) => {
+            // A directory, or a file that may not be written, is not replaced either: the error says so.
+            let file = OpenOptions::new().write(true).open(path)?;
+            match metadata.is_file() {
+                true => create_beside(fs::canonicalize(path)?),
+                false => Ok((file, None)),
+            }
+        }
         Err(error) if error.kind() == ErrorKind::NotFound && names_a_file(path) => create_beside(end_of_links(path)),
         Err(error) => Err(error),
     }
