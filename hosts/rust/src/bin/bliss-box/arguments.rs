@@ -98,12 +98,11 @@ impl Arguments {
 
     /// The files that are read, each by the name that it has on the command line.
     pub fn inputs(&self) -> Vec<(&'static str, &OsStr)> {
-        let operands = match self.kind {
-            Operands::File => self.operands.as_slice(),
-            _ => &[],
-        };
-        let operands = operands.iter().map(|path| (FILE, path.as_os_str()));
-        self.files(&INPUTS).chain(operands).collect()
+        let mut inputs: Vec<_> = self.files(&INPUTS).collect();
+        if let Operands::File = self.kind {
+            inputs.extend(self.operands.iter().map(|path| (FILE, path.as_os_str())));
+        }
+        inputs
     }
 
     /// The files that are written.

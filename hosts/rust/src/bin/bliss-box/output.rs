@@ -18,8 +18,8 @@ const LONGEST_LINE: usize = 12;
 /// Whether standard output was closed when the program was started.
 static CLOSED: AtomicBool = AtomicBool::new(false);
 
-/// Before `main`, Rust's runtime opens /dev/null in the place of a standard output that is closed, and what is printed would be lost
-/// without an error. So this is called before the runtime.
+/// Before `main`, Rust's runtime opens /dev/null in the place of a standard output that is closed, and what is printed would be
+/// lost without an error. So this is called before the runtime.
 extern "C" fn look_at_standard_output() {
     extern "C" {
         fn fcntl(descriptor: i32, command: i32, ...) -> i32;
@@ -34,7 +34,7 @@ extern "C" fn look_at_standard_output() {
 #[link_section = ".init_array"]
 static BEFORE_THE_RUNTIME: extern "C" fn() = look_at_standard_output;
 
-/// Whether there is a standard output at all.
+/// Looks whether there is a standard output at all.
 pub fn check() -> Result<(), Failure> {
     match CLOSED.load(Ordering::Relaxed) {
         true => Err(Failure::at("standard output", "it is closed")),
@@ -49,7 +49,7 @@ pub fn say(line: &str) {
 
 /// Prints text to standard output.
 pub fn print(text: impl AsRef<[u8]>) -> Result<(), Failure> {
-    // Not through std's handle: it has a buffer that nobody wipes, and drops what a descriptor opened for reading alone can't take.
+    // Not through std's handle: it has a buffer that nobody wipes, and takes a descriptor that can't be written for a good one.
     let output = io::stdout().as_fd().try_clone_to_owned().map(File::from);
     match output.and_then(|mut output| output.write_all(text.as_ref())) {
         Err(error) if error.kind() == ErrorKind::BrokenPipe => Err(Failure::Unread),
@@ -78,7 +78,7 @@ impl Lists {
     pub fn add(&mut self, list: &[u32]) -> Result<(), Failure> {
         match self {
             Lists::Nowhere => Ok(()),
-            Lists::Standard => with_lines(list, |text| print(text)),
+            Lists::Standard => print_lines(list),
             Lists::File(file) => with_lines(list, |text| file.write(text)),
         }
     }
@@ -86,15 +86,19 @@ impl Lists {
     /// Prints numbers, one a line, and keeps the lists.
     pub fn deliver(self, numbers: &[i32]) -> Result<(), Failure> {
         match self {
-            Lists::Nowhere => with_lines(numbers, |text| print(text)),
+            Lists::Nowhere => print_lines(numbers),
             Lists::Standard => Ok(()),
             Lists::File(file) => {
                 file.sync()?;
-                with_lines(numbers, |text| print(text))?;
+                print_lines(numbers)?;
                 file.keep()
             }
         }
     }
+}
+
+fn print_lines<T: Display>(numbers: &[T]) -> Result<(), Failure> {
+    with_lines(numbers, |text| print(text))
 }
 
 /// Writes 32-bit numbers, one a line. The text of noise is as secret as the noise.

@@ -9,8 +9,8 @@ use std::process;
 
 use crate::ending::Failure;
 
-/// A file that is written beside the one of its name, and replaces it once it is whole. A command that fails leaves the older file as
-/// it was. A pipe or a device, which has nothing to lose, is written as it is.
+/// A file that is written beside the one of its name, and replaces it once it is whole. A command that fails leaves the older file
+/// as it was. A pipe or a device, which has nothing to lose, is written as it is.
 pub struct OutputFile {
     name: String,
     file: File,
@@ -85,6 +85,7 @@ fn create_beside(target: PathBuf) -> io::Result<(File, Option<Beside>)> {
     }
 }
 
+/// A path that ends with a slash names a folder.
 fn names_a_file(path: &Path) -> bool {
     !matches!(path.as_os_str().as_encoded_bytes().last(), None | Some(b'/'))
 }

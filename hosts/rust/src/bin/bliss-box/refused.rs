@@ -1,5 +1,5 @@
-//! Why the box refused a call, said of what the command line lent to it. The box says which rule was broken; where it was broken is
-//! looked for here, after the refusal, and only in what is public.
+//! Why the box refused a call, said of what the command line lent to it. The box says which rule was broken; where it was broken
+//! is looked for here, after the refusal, and only in what is public.
 
 use bliss_box::{challenge_limit, Refusal};
 

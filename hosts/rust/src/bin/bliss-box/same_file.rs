@@ -1,4 +1,5 @@
-//! No file is both read and written. Files are told apart by device and inode, so that every path and every link to a file is that file.
+//! No file is both read and written. Files are told apart by device and inode, so that every path and every link to a file is
+//! that file.
 
 use std::ffi::OsStr;
 use std::fs::{self, File, Metadata};

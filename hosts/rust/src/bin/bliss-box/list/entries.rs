@@ -8,8 +8,8 @@ use bliss_box::{Entry, Kind, POLYNOMIAL};
 
 use crate::ending::Failure;
 
-/// The entries of a list, from first to last, and the text that explains those of a call before the next one. They are read as they
-/// are needed, since a list may have no end.
+/// The entries of a list, from first to last, and the text that explains those of a call before the next one. They are read as
+/// they are needed, since a list may have no end.
 pub struct Entries<'a> {
     /// Where the list is from.
     name: &'a str,
