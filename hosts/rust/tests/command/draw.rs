@@ -56,3 +56,11 @@ fn spent_draws_print_no_samples() {
     assert_eq!(ran.err, warned(&words, "draw spent: attempts 8, accepted 7, entries 370\n"));
     assert!(fs::read_to_string(list).unwrap().ends_with(&lines(&[(5 << 24) + 7, (6 << 24) + 7])));
 }
+
+#[test]
+fn noise_of_zeros_is_a_fault() {
+    let (words, list) = (file("zero-words", "0\n".repeat(32)), path("zero-list"));
+    let problem = "fault: the noise that was drawn is all zero, as from words that are not random";
+    fails(&["draw", "--degree", "4", "--limit", "8", "--words", &words, "--list", &list], 1, problem);
+    assert!(fs::metadata(list).is_err());
+}

@@ -71,6 +71,24 @@ fn a_spent_draw_is_a_try_that_fails() {
     assert_eq!(run(&[&with[..], &["--tries", "1"]].concat()).status, 3);
 }
 
+/// A try stays printed where the words run out in the next one, be it at the draw or at the response.
+#[test]
+fn lists_on_standard_output_come_try_by_try() {
+    let [key, challenge] = key_and_challenge("by-try");
+    let (draw, rejected) = (words_with("11111111"), [0, u64::MAX, 0]);
+    let respond = |name: &str, words: &[&[u64]], tries: &str| {
+        let words = file(name, lines(&words.concat()));
+        let with = ["--key", &key, "--challenge", &challenge, "--words", &words, "--tries", tries, "--list", "-"];
+        run(&[&["respond", "--degree", "4", "--limit", "8"], &with[..]].concat())
+    };
+    let one = respond("by-try-one", &[&draw, &rejected], "1");
+    assert_eq!((one.status, one.out.lines().count()), (3, 370 + 63));
+    for (name, words) in [("by-try-draw", &[&draw[..], &rejected][..]), ("by-try-response", &[&draw, &rejected, &draw])] {
+        let two = respond(name, words, "2");
+        assert_eq!((two.status, two.out), (1, one.out.clone()), "{}", two.err);
+    }
+}
+
 /// A try of this challenge at degree 512 has half a megabyte of entries, and a megabyte of lines for them.
 #[test]
 fn lists_of_many_tries_take_no_more_memory_than_one() {
