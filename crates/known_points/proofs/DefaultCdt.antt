@@ -8,4 +8,5 @@ unfolding tables refusals exponentials byItsWeight
 default-cdt = record {
   served = refl;
   weights = refl;
+  last-weight = refl;
 }

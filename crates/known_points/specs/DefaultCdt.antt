@@ -44,3 +44,5 @@ pub record DefaultCdt : Type 0 where
   pub served : drawRefusal 4 8 cdt215 polynomial 32 8 370 ≡ 0
   -- base samples 1 to 9 come as often as they should
   pub weights : allBelow (λ (i : ℕ). byItsWeight (suc i)) 9 ≡ true
+  -- and base sample 10, whose weight is too small for e, by as few draws as that allows
+  pub last-weight : leb ((2 ^ 124 - threshold cdt215 9) * 2 ^ 62) (drawsOf0 * 1025) ≡ true
