@@ -37,6 +37,7 @@
 //! The archive is linked from the repository's `target/staticlib`, where `rt staticlib bliss_box` writes it, or from the folder
 //! that the environment variable `BLISS_BOX_LIB_DIR` names when the crate is built.
 
+mod cdt;
 mod owned;
 pub mod raw;
 mod read_list;
@@ -44,6 +45,7 @@ mod refusal;
 mod secret;
 mod tables;
 
+pub use cdt::cdt;
 pub use owned::{OwnedDraw, OwnedResponse};
 pub use read_list::{Entry, Kind};
 pub use refusal::Refusal;
