@@ -76,14 +76,14 @@ def text_of(file):
 def read(file, text):
     """The tables of a file, and the faults of its form."""
     language, _ = FILES[file]
-    skipped = re.sub(language.skipped, lambda found: " " * len(found[0]), text)
+    code = re.sub(language.skipped, lambda found: " " * len(found[0]), text)
     tables, faults = [], []
-    for found in re.finditer(language.table, skipped):
-        words = re.compile(language.word).finditer(skipped, *found.span(2))
+    for found in re.finditer(language.table, code):
+        words = re.compile(language.word).finditer(code, *found.span(2))
         tables.append(Table(file, text, found[1], [Word(int(word[1]), *word.span(1)) for word in words]))
         if re.search(r"[^\s,∷]", re.sub(language.word, "", found[2])):
             faults.append(f"{file}: {found[1]} is not a list of whole numbers")
-    outside = re.sub(language.table, "", skipped)
+    outside = re.sub(language.table, "", code)
     faults += [f"{file}: {number} stands outside of every table" for number in re.findall(r"\d{10,}", outside)]
     return tables, faults
 
@@ -113,7 +113,7 @@ def against_each_other(tables):
         difference = first_difference(table.numbers(), other.numbers())
         if table.rule() == other.rule() and difference:
             place, number, other_number = difference
-            faults.append(f"{table.at(place)} is {number}, and of {other.name} in {other.file} {other_number}")
+            faults.append(f"{table.at(place)} is {number}, and {other_number} in {other.name} of {other.file}")
     return faults
 
 

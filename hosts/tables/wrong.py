@@ -75,7 +75,7 @@ def try_table(table, twins):
         tried += 1
     others = {
         "under another name": table.text.replace(table.name, "OTHER"),
-        "with a word in another base": with_words(table, [hex(table.rule()[0]), *right[1:]]),
+        "with a sum for a word": with_words(table, [right[0] + " + x", *right[1:]]),
     }
     for how, text in others.items():
         if not is_found(text, table, []):
