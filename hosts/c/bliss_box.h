@@ -36,7 +36,7 @@ extern "C" {
 #define BLISS_NONNULL
 #endif
 
-/* A cast that no warning of C++ objects to. */
+/* A cast that C++ does not call an old one. */
 #ifdef __cplusplus
 #define BLISS_CAST(type, value) static_cast<type>(value)
 #else
@@ -210,9 +210,7 @@ size_t bliss_filled(const uint32_t *list, size_t list_length, size_t count);
  * they name. Where one finds a fault, the host neither uses the noise nor publishes the response. */
 
 /* Whether the noise is all zero, after a draw that is full. A response would then be the product of key and challenge alone, and
- * some of those give the key away.
- * Gives: true, too, for a length of 0.
- * Time:  all values are joined before the one test: no jump depends on a single value. */
+ * some of those give the key away. All values are joined before the one test, so that no jump depends on a single value. */
 BLISS_MUST_USE BLISS_NONNULL
 static inline bool bliss_noise_is_zero(const int32_t *y, size_t y_length)
 {
@@ -237,7 +235,9 @@ static inline bool bliss_draw_fits(bliss_draw_answer answer, size_t n, const uin
 {
     size_t filled = bliss_filled(list, list_length, answer.entries);
 
-    return filled > 0 && filled == BLISS_DRAW_ENTRIES(answer.attempts) && bliss_entry_is(list[0], BLISS_KIND_DRAW, n) &&
+    /* There are fewer attempts than entries; of more, the number of entries could be above 2^64, and cut off. */
+    return answer.attempts < filled && filled == BLISS_DRAW_ENTRIES(answer.attempts) &&
+           bliss_entry_is(list[0], BLISS_KIND_DRAW, n) &&
            bliss_entry_is(list[filled - 1], BLISS_KIND_ACCEPTED, answer.accepted);
 }
 
@@ -248,7 +248,8 @@ static inline bool bliss_respond_fits(bliss_respond_answer answer, size_t n, siz
 {
     size_t filled = bliss_filled(list, list_length, answer.entries);
 
-    return filled > 0 && filled == BLISS_RESPOND_ENTRIES(n, positions) && bliss_entry_is(list[0], BLISS_KIND_RESPONSE, n) &&
+    return filled > 0 && filled == BLISS_RESPOND_ENTRIES(n, positions) &&
+           bliss_entry_is(list[0], BLISS_KIND_RESPONSE, n) &&
            bliss_entry_is(list[filled - 1], BLISS_KIND_BIT, answer.bit);
 }
 

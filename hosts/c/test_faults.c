@@ -60,6 +60,8 @@ static void test_draw(bliss_draw_answer answer)
     CHECK(draw_fits_changed(answer, 0, 0, 0));
     CHECK(!draw_fits_changed(answer, 1, 0, 0));
     CHECK(!draw_fits_changed(answer, 1, 0, 46));
+    CHECK(BLISS_DRAW_ENTRIES(answer.attempts + ((size_t)1 << 63)) == answer.entries);
+    CHECK(!draw_fits_changed(answer, (size_t)1 << 63, 0, 0));
     CHECK(!draw_fits_changed(answer, 0, 1, 0));
     CHECK(!draw_fits_changed(answer, 0, (size_t)1 << 32, 0));
     CHECK(!draw_fits_changed(answer, 0, 0, 1));
