@@ -1,13 +1,21 @@
-/* The BLISS-I sampling box, for a C host. Link target/staticlib/libbliss_box.a, which `rt staticlib bliss_box` proves and writes.
+/* The BLISS-I sampling box, for a host in C (C99 on) or C++ (C++11 on). Link target/staticlib/libbliss_box.a, which
+ * `rt staticlib bliss_box` proves and writes.
  *
- * A call takes any numbers and any contents, keeps no state of its own, uses no heap and always returns. A call that can't be
- * served gives the number of the first refusal that applies, and leaves all memory and the session as they were.
+ * Layouts may change with any version: build header and archive from one version, and compare bliss_version() with
+ * BLISS_BOX_VERSION at the host's start.
+ *
+ * A call takes any numbers and any contents, keeps no state of its own, uses no heap and at most BLISS_STACK_BYTES of stack, and
+ * always returns. A call that can't be served gives the number of the first refusal that applies, and leaves all memory and the
+ * session as they were.
  *
  * The host must guarantee what the types say, and no compiler sees: each pointer is aligned and valid for its length, for writing
  * too where it is not const; none is null, also with a length of 0; a buffer that is written overlaps no other; `drawn` is 0 or 1.
  * docs/HOST-GUIDE.md says more.
  *
- * What stands under Time is tested on the archive, and not proved. */
+ * Calls may run at the same time in any threads, as long as no buffer that one of them writes is used by another: nothing else is
+ * shared, and a session is a value.
+ *
+ * What stands under Time, and the size of the stack, is tested on the archive, and not proved. */
 #ifndef BLISS_BOX_H
 #define BLISS_BOX_H
 
@@ -18,6 +26,35 @@
 #ifdef __cplusplus
 extern "C" {
 #endif
+
+/* gcc and clang warn of a result that is not used, and of a null pointer. */
+#ifdef __GNUC__
+#define BLISS_MUST_USE __attribute__((warn_unused_result))
+#define BLISS_NONNULL __attribute__((nonnull))
+#else
+#define BLISS_MUST_USE
+#define BLISS_NONNULL
+#endif
+
+/* A cast that C++ does not call an old one. */
+#ifdef __cplusplus
+#define BLISS_CAST(type, value) static_cast<type>(value)
+#else
+#define BLISS_CAST(type, value) ((type)(value))
+#endif
+
+/* The version of this header, 10000 * major + 100 * minor + patch: 0.2.0. */
+#define BLISS_BOX_VERSION 200
+
+/* The version of the archive, by the same rule. A host compares it with BLISS_BOX_VERSION at its start, before any other call,
+ * and ends where they differ: a session travels by value, and an archive of another version may take its bytes for something
+ * else. This declaration never changes. */
+BLISS_MUST_USE
+uint32_t bliss_version(void);
+
+/* The most stack that a call takes, in bytes. A dynamic linker that looks memset up at its first call takes more, that one time;
+ * one that has been told to look it up at the start (-Wl,-z,now) does not. */
+#define BLISS_STACK_BYTES 1024
 
 /* Refusals. 0 is a call that is served. */
 enum {
@@ -73,20 +110,17 @@ typedef struct {
     bliss_session session;
 } bliss_responded;
 
-/* The layout that the archive has, on x86-64. */
-#ifdef __cplusplus
-#define BLISS_LAYOUT(claim) static_assert(claim, "a layout that the archive does not have")
-#else
-#define BLISS_LAYOUT(claim) _Static_assert(claim, "a layout that the archive does not have")
-#endif
-BLISS_LAYOUT(sizeof(bliss_session) == 16 && offsetof(bliss_session, drawn) == 8);
-BLISS_LAYOUT(sizeof(bliss_opened) == 24 && offsetof(bliss_opened, session) == 8);
-BLISS_LAYOUT(sizeof(bliss_draw_answer) == 32 && offsetof(bliss_draw_answer, attempts) == 8);
-BLISS_LAYOUT(offsetof(bliss_draw_answer, accepted) == 16 && offsetof(bliss_draw_answer, entries) == 24);
-BLISS_LAYOUT(sizeof(bliss_drawn) == 48 && offsetof(bliss_drawn, session) == 32);
-BLISS_LAYOUT(sizeof(bliss_respond_answer) == 16 && offsetof(bliss_respond_answer, bit) == 4);
-BLISS_LAYOUT(offsetof(bliss_respond_answer, entries) == 8);
-BLISS_LAYOUT(sizeof(bliss_responded) == 32 && offsetof(bliss_responded, session) == 16);
+/* The layout that the archive has, on x86-64. A false claim makes an array of length -1, which no compiler takes: C99 has no
+ * static assertions. */
+#define BLISS_LAYOUT(name, claim) typedef char bliss_layout_of_##name[(claim) ? 1 : -1]
+BLISS_LAYOUT(session, sizeof(bliss_session) == 16 && offsetof(bliss_session, drawn) == 8);
+BLISS_LAYOUT(opened, sizeof(bliss_opened) == 24 && offsetof(bliss_opened, session) == 8);
+BLISS_LAYOUT(draw_answer, sizeof(bliss_draw_answer) == 32 && offsetof(bliss_draw_answer, attempts) == 8 &&
+                              offsetof(bliss_draw_answer, accepted) == 16 && offsetof(bliss_draw_answer, entries) == 24);
+BLISS_LAYOUT(drawn, sizeof(bliss_drawn) == 48 && offsetof(bliss_drawn, session) == 32);
+BLISS_LAYOUT(respond_answer, sizeof(bliss_respond_answer) == 16 && offsetof(bliss_respond_answer, bit) == 4 &&
+                                 offsetof(bliss_respond_answer, entries) == 8);
+BLISS_LAYOUT(responded, sizeof(bliss_responded) == 32 && offsetof(bliss_responded, session) == 16);
 #undef BLISS_LAYOUT
 
 /* The lengths that calls ask for, at degree n: of the tables; of y, z and the key; for a draw with a limit of attempts; and for a
@@ -94,13 +128,13 @@ BLISS_LAYOUT(sizeof(bliss_responded) == 32 && offsetof(bliss_responded, session)
  * attempts is spent with a chance of at most 2^-64, at every degree. */
 #define BLISS_CDT_WORDS 20
 #define BLISS_POLYNOMIAL_WORDS 21
-#define BLISS_SAMPLES(n) (2 * (size_t)(n))
-#define BLISS_DRAW_LIMIT(n) (4 * (size_t)(n) + 56)
-#define BLISS_DRAW_WORDS(limit) (4 * (size_t)(limit))
-#define BLISS_DRAW_ENTRIES(limit) (46 * (size_t)(limit) + 2)
-#define BLISS_CHALLENGE_LIMIT(n) ((size_t)(n) < 64 ? (size_t)(n) : (size_t)64)
+#define BLISS_SAMPLES(n) (2 * BLISS_CAST(size_t, n))
+#define BLISS_DRAW_LIMIT(n) (4 * BLISS_CAST(size_t, n) + 56)
+#define BLISS_DRAW_WORDS(limit) (4 * BLISS_CAST(size_t, limit))
+#define BLISS_DRAW_ENTRIES(limit) (46 * BLISS_CAST(size_t, limit) + 2)
+#define BLISS_CHALLENGE_LIMIT(n) (BLISS_CAST(size_t, n) < 64 ? BLISS_CAST(size_t, n) : BLISS_CAST(size_t, 64))
 #define BLISS_RESPOND_WORDS 3
-#define BLISS_RESPOND_ENTRIES(n, positions) (2 * (size_t)(n) * (size_t)(positions) + 47)
+#define BLISS_RESPOND_ENTRIES(n, positions) (2 * BLISS_CAST(size_t, n) * BLISS_CAST(size_t, positions) + 47)
 
 /* The kinds of entries in a read list, by what the place of an entry is. */
 enum {
@@ -116,13 +150,14 @@ enum {
 };
 
 /* An entry is kind * 2^24 + place. */
-#define BLISS_ENTRY(kind, place) ((uint32_t)(kind) << 24 | (uint32_t)(place))
-#define BLISS_ENTRY_KIND(entry) ((uint32_t)(entry) >> 24)
-#define BLISS_ENTRY_PLACE(entry) ((uint32_t)(entry) & 0xffffff)
+#define BLISS_ENTRY(kind, place) (BLISS_CAST(uint32_t, kind) << 24 | BLISS_CAST(uint32_t, place))
+#define BLISS_ENTRY_KIND(entry) (BLISS_CAST(uint32_t, entry) >> 24)
+#define BLISS_ENTRY_PLACE(entry) (BLISS_CAST(uint32_t, entry) & 0xffffff)
 
 /* Opens a session of degree n.
  * Gives: a session with nothing drawn; refused, one of degree 0.
  * Refuses: 1. */
+BLISS_MUST_USE
 bliss_opened bliss_open(size_t n);
 
 /* Draws 2n samples of Gaussian noise into y.
@@ -135,6 +170,7 @@ bliss_opened bliss_open(size_t n);
  * Time:    no jump and no address depends on a word or a sample, except by the accept bits of the attempts, which the list
  *          shows.
  * The words must be fresh random words, used for this draw alone. */
+BLISS_MUST_USE BLISS_NONNULL
 bliss_drawn bliss_draw(bliss_session session, size_t limit,                  //
                        const uint64_t *cdt, size_t cdt_length,               //
                        const uint64_t *polynomial, size_t polynomial_length, //
@@ -154,6 +190,7 @@ bliss_drawn bliss_draw(bliss_session session, size_t limit,                  //
  * Time:    no jump and no address depends on words, key, y or z, except by the response's bit, which the list shows, and by
  *          refusals 10 and 11. The challenge shows, that of a rejection too.
  * The words must be fresh random words, used for this response alone. */
+BLISS_MUST_USE BLISS_NONNULL
 bliss_responded bliss_respond(bliss_session session,                                //
                               const uint32_t *challenge, size_t challenge_length,   //
                               const uint64_t *polynomial, size_t polynomial_length, //
@@ -165,7 +202,56 @@ bliss_responded bliss_respond(bliss_session session,                            
 
 /* The length of the filled part of a list, for the count of entries of an answer. The part starts where the list starts.
  * Gives: the count; 0 where it is over the list's length. */
+BLISS_MUST_USE BLISS_NONNULL
 size_t bliss_filled(const uint32_t *list, size_t list_length, size_t count);
+
+/* Tests against faults. The calls are proved as they are written; a source of words that fails unnoticed, a machine that skips an
+ * instruction and a host that hands on the wrong buffer are outside of the proof. A host makes these tests after the calls that
+ * they name. Where one finds a fault, the host neither uses the noise nor publishes the response. */
+
+/* Whether the noise is all zero, after a draw that is full. A response would then be the product of key and challenge alone, and
+ * some of those give the key away. All values are joined before the one test, so that no jump depends on a single value. */
+BLISS_MUST_USE BLISS_NONNULL
+static inline bool bliss_noise_is_zero(const int32_t *y, size_t y_length)
+{
+    int32_t joined = 0;
+
+    for (size_t i = 0; i < y_length; i++)
+        joined |= y[i];
+    return joined == 0;
+}
+
+/* Whether an entry has this kind and this place. */
+BLISS_MUST_USE
+static inline bool bliss_entry_is(uint32_t entry, uint32_t kind, size_t place)
+{
+    return BLISS_ENTRY_KIND(entry) == kind && BLISS_ENTRY_PLACE(entry) == place;
+}
+
+/* Whether the list of a draw at degree n fits its answer: in the number of its entries, and in the first and the last of them.
+ * Gives: false where the draw is refused. Nothing behind the list's length is read, whatever the answer says. */
+BLISS_MUST_USE BLISS_NONNULL
+static inline bool bliss_draw_fits(bliss_draw_answer answer, size_t n, const uint32_t *list, size_t list_length)
+{
+    size_t filled = bliss_filled(list, list_length, answer.entries);
+
+    /* There are fewer attempts than entries; of more, the number of entries could be above 2^64, and cut off. */
+    return answer.attempts < filled && filled == BLISS_DRAW_ENTRIES(answer.attempts) &&
+           bliss_entry_is(list[0], BLISS_KIND_DRAW, n) &&
+           bliss_entry_is(list[filled - 1], BLISS_KIND_ACCEPTED, answer.accepted);
+}
+
+/* The same for a response at degree n to a challenge of so many positions. */
+BLISS_MUST_USE BLISS_NONNULL
+static inline bool bliss_respond_fits(bliss_respond_answer answer, size_t n, size_t positions, const uint32_t *list,
+                                      size_t list_length)
+{
+    size_t filled = bliss_filled(list, list_length, answer.entries);
+
+    return filled > 0 && filled == BLISS_RESPOND_ENTRIES(n, positions) &&
+           bliss_entry_is(list[0], BLISS_KIND_RESPONSE, n) &&
+           bliss_entry_is(list[filled - 1], BLISS_KIND_BIT, answer.bit);
+}
 
 /* The largest n that bliss_exponential serves. */
 #define BLISS_EXPONENTIAL_LIMIT UINT64_C(5534960)
@@ -178,6 +264,7 @@ size_t bliss_filled(const uint32_t *list, size_t list_length, size_t count);
  *          (-n / 5916800)^j / j!.
  * Refuses: any other n, by BLISS_EXPONENTIAL_REFUSED.
  * Time:    apart from the test of the limit, no jump and no address depends on n. */
+BLISS_MUST_USE
 uint64_t bliss_exponential(uint64_t n);
 
 /* The polynomial table: entry j is the whole part of 2^62 / j!. */
@@ -206,6 +293,9 @@ uint64_t bliss_exponential(uint64_t n);
             UINT64_C(4611686018427387903), UINT64_C(4611684434372927295),         \
             UINT64_C(4611686018427387903), UINT64_C(4611686018425147250)          \
     }
+
+#undef BLISS_MUST_USE
+#undef BLISS_NONNULL
 
 #ifdef __cplusplus
 }

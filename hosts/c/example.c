@@ -1,9 +1,11 @@
-/* A whole host, `example DEGREE [NUMBER]`: opens a session, draws noise, responds to a challenge with it, and starts again with new noise
- * and a new challenge for as long as the response is rejected. Prints the tries and the response. Key and challenges are toys here:
- * making keys and hashing are a host's own.
+/* A whole host, `example DEGREE [NUMBER]`: opens a session, draws noise, responds to a challenge with it, and starts again with
+ * new noise and a new challenge for as long as the response is rejected. Prints the tries and the response. Ends with status 1
+ * where a call is refused or a test against faults fails. Key and challenges are toys here: making keys and hashing are a host's
+ * own.
  *
  * A second argument, a number, replaces the system's random words by those of a small generator, so that a test knows what is
  * printed. Such words must never meet a real key. */
+#define _DEFAULT_SOURCE /* for explicit_bzero */
 #include "bliss_box.h"
 
 #include <errno.h>
@@ -15,8 +17,9 @@
 static const uint64_t polynomial[BLISS_POLYNOMIAL_WORDS] = BLISS_POLYNOMIAL;
 static const uint64_t cdt[BLISS_CDT_WORDS] = BLISS_CDT_215;
 
-/* What the host lends at one degree. The key, the words and y are secret. */
+/* What the host lends at one degree. The key, the words and y are secret, and so is z until it is published. */
 struct buffers {
+    size_t degree;
     size_t samples;
     size_t limit;
     size_t positions;
@@ -44,7 +47,7 @@ static void *allocated(size_t count, size_t size)
 /* Buffers for degree n. A challenge has 23 positions, as BLISS-I's do, or n where that is fewer. */
 static struct buffers buffers_for(size_t n)
 {
-    struct buffers b = {.samples = BLISS_SAMPLES(n), .limit = BLISS_DRAW_LIMIT(n), .positions = n < 23 ? n : 23};
+    struct buffers b = {.degree = n, .samples = BLISS_SAMPLES(n), .limit = BLISS_DRAW_LIMIT(n), .positions = n < 23 ? n : 23};
 
     b.challenge = allocated(b.positions, sizeof *b.challenge);
     b.key = allocated(b.samples, sizeof *b.key);
@@ -63,6 +66,7 @@ static void release(struct buffers *b)
     explicit_bzero(b->draw_words, BLISS_DRAW_WORDS(b->limit) * sizeof *b->draw_words);
     explicit_bzero(b->respond_words, sizeof b->respond_words);
     explicit_bzero(b->y, b->samples * sizeof *b->y);
+    explicit_bzero(b->z, b->samples * sizeof *b->z);
     free(b->challenge);
     free(b->key);
     free(b->draw_words);
@@ -72,7 +76,22 @@ static void release(struct buffers *b)
     free(b->respond_list);
 }
 
-static void fill_from_system(uint64_t *words, size_t length)
+/* Says what is wrong, if anything is. Once there are secrets only main ends the program, and wipes them on every way out. */
+static bool right(bool is_right, const char *what_is_wrong)
+{
+    if (!is_right)
+        fprintf(stderr, "%s\n", what_is_wrong);
+    return is_right;
+}
+
+static bool served(const char *call, uint32_t refusal)
+{
+    if (refusal != BLISS_SERVED)
+        fprintf(stderr, "%s: refusal %u\n", call, refusal);
+    return refusal == BLISS_SERVED;
+}
+
+static bool fill_from_system(uint64_t *words, size_t length)
 {
     unsigned char *bytes = (unsigned char *)words;
     size_t left = length * sizeof *words;
@@ -82,29 +101,29 @@ static void fill_from_system(uint64_t *words, size_t length)
 
         if (got < 0 && errno != EINTR) {
             perror("getrandom");
-            exit(1);
+            return false;
         }
         if (got > 0) {
             bytes += got;
             left -= (size_t)got;
         }
     }
+    return true;
 }
 
 /* 0, or the state of the small generator. */
 static uint64_t generator;
 
 /* Words that nobody has seen, each used once. */
-static void fill_with_fresh(uint64_t *words, size_t length)
+static bool fill_with_fresh(uint64_t *words, size_t length)
 {
-    if (generator == 0) {
-        fill_from_system(words, length);
-        return;
-    }
+    if (generator == 0)
+        return fill_from_system(words, length);
     for (size_t i = 0; i < length; i++) {
         generator = generator * UINT64_C(6364136223846793005) + UINT64_C(1442695040888963407);
         words[i] = (generator ^ generator >> 29) * UINT64_C(0x9e3779b97f4a7c15);
     }
+    return true;
 }
 
 /* A key of small values, nearly half of them 0. */
@@ -119,61 +138,68 @@ static void fill_key(struct buffers *b)
 /* In a signature the challenge is a hash of the message and of what the noise commits to: another one for each try. */
 static void fill_challenge(struct buffers *b, size_t try)
 {
-    size_t step = b->samples / 2 / b->positions;
+    size_t step = b->degree / b->positions;
 
     for (size_t i = 0; i < b->positions; i++)
         b->challenge[i] = (uint32_t)(i * step + try % step);
 }
 
-static bliss_drawn draw(bliss_session session, struct buffers *b)
+/* Draws, and prints what the draw counted. */
+static bool draw(struct buffers *b, bliss_session *session, size_t try)
 {
-    fill_with_fresh(b->draw_words, BLISS_DRAW_WORDS(b->limit));
-    return bliss_draw(session, b->limit, cdt, BLISS_CDT_WORDS, polynomial, BLISS_POLYNOMIAL_WORDS, b->draw_words,
-                      BLISS_DRAW_WORDS(b->limit), b->y, b->samples, b->draw_list, BLISS_DRAW_ENTRIES(b->limit));
+    size_t list_length = BLISS_DRAW_ENTRIES(b->limit);
+    bliss_drawn drawn;
+
+    if (!fill_with_fresh(b->draw_words, BLISS_DRAW_WORDS(b->limit)))
+        return false;
+    drawn = bliss_draw(*session, b->limit, cdt, BLISS_CDT_WORDS, polynomial, BLISS_POLYNOMIAL_WORDS, b->draw_words,
+                       BLISS_DRAW_WORDS(b->limit), b->y, b->samples, b->draw_list, list_length);
+    *session = drawn.session;
+    if (!served("draw", drawn.answer.refusal))
+        return false;
+    printf("try %zu: %zu attempts for %zu samples, %zu entries listed\n", try, drawn.answer.attempts, drawn.answer.accepted,
+           drawn.answer.entries);
+    return right(bliss_draw_fits(drawn.answer, b->degree, b->draw_list, list_length),
+                 "the list of the draw does not fit its answer") &&
+           right(!session->drawn || !bliss_noise_is_zero(b->y, b->samples), "the noise is all zero");
 }
 
-static bliss_responded respond(bliss_session session, struct buffers *b)
+static bool respond(struct buffers *b, bliss_session *session, bliss_respond_answer *answer)
 {
-    fill_with_fresh(b->respond_words, BLISS_RESPOND_WORDS);
-    return bliss_respond(session, b->challenge, b->positions, polynomial, BLISS_POLYNOMIAL_WORDS, b->respond_words,
-                         BLISS_RESPOND_WORDS, b->key, b->samples, b->y, b->samples, b->z, b->samples, b->respond_list,
-                         BLISS_RESPOND_ENTRIES(session.degree, b->positions));
+    size_t list_length = BLISS_RESPOND_ENTRIES(b->degree, b->positions);
+    bliss_responded responded;
+
+    if (!fill_with_fresh(b->respond_words, BLISS_RESPOND_WORDS))
+        return false;
+    responded = bliss_respond(*session, b->challenge, b->positions, polynomial, BLISS_POLYNOMIAL_WORDS, b->respond_words,
+                              BLISS_RESPOND_WORDS, b->key, b->samples, b->y, b->samples, b->z, b->samples, b->respond_list,
+                              list_length);
+    *session = responded.session;
+    *answer = responded.answer;
+    return served("respond", answer->refusal) &&
+           right(bliss_respond_fits(*answer, b->degree, b->positions, b->respond_list, list_length),
+                 "the list of the response does not fit its answer");
 }
 
-static void end_if_refused(const char *call, uint32_t refusal)
+/* Tries until a response is accepted, and counts the tries. Gives false where something is wrong: then nothing is published. */
+static bool respond_until_accepted(struct buffers *b, bliss_session session, size_t *tries, bliss_respond_answer *answer)
 {
-    if (refusal != BLISS_SERVED) {
-        fprintf(stderr, "%s: refusal %u\n", call, refusal);
-        exit(1);
-    }
-}
-
-/* Tries until a response is accepted. Returns its answer, and adds to the tries. */
-static bliss_respond_answer accepted_response(bliss_session session, struct buffers *b, size_t *tries)
-{
-    for (;;) {
-        bliss_drawn drawn = draw(session, b);
-        bliss_responded responded;
-
-        end_if_refused("draw", drawn.answer.refusal);
-        ++*tries;
-        printf("try %zu: %zu attempts for %zu samples, %zu entries listed\n", *tries, drawn.answer.attempts,
-               drawn.answer.accepted, drawn.answer.entries);
-        session = drawn.session;
+    for (*tries = 1;; ++*tries) {
+        if (!draw(b, &session, *tries))
+            return false;
         if (!session.drawn) /* spent: there is no noise to respond with */
             continue;
         fill_challenge(b, *tries);
-        responded = respond(session, b);
-        end_if_refused("respond", responded.answer.refusal);
-        if (responded.answer.bit)
-            return responded.answer;
-        session = responded.session;
+        if (!respond(b, &session, answer))
+            return false;
+        if (answer->bit)
+            return true;
     }
 }
 
 static void print_response(const struct buffers *b, bliss_respond_answer answer)
 {
-    size_t filled = bliss_filled(b->respond_list, BLISS_RESPOND_ENTRIES(b->samples / 2, b->positions), answer.entries);
+    size_t filled = bliss_filled(b->respond_list, BLISS_RESPOND_ENTRIES(b->degree, b->positions), answer.entries);
     uint32_t first = b->respond_list[0];
     uint32_t last = b->respond_list[filled - 1];
 
@@ -203,19 +229,27 @@ static uint64_t number_of(const char *text)
 int main(int argc, char **argv)
 {
     uint64_t n = number_of(argc == 2 || argc == 3 ? argv[1] : "");
-    bliss_opened opened = bliss_open(n);
     bliss_respond_answer answer;
+    bliss_opened opened;
     struct buffers b;
-    size_t tries = 0;
+    size_t tries;
+    bool accepted;
 
-    end_if_refused("open", opened.refusal);
+    /* Before any other call: an archive of another version may take a session for something else. */
+    if (!right(bliss_version() == BLISS_BOX_VERSION, "the header and the archive are of different versions"))
+        return 1;
+    opened = bliss_open(n);
+    if (!served("open", opened.refusal))
+        return 1;
     generator = argc == 3 ? number_of(argv[2]) : 0;
     b = buffers_for(n);
     fill_key(&b);
-    answer = accepted_response(opened.session, &b, &tries);
-    printf("degree %zu: accepted after %zu %s, a challenge of %zu positions\n", opened.session.degree, tries,
-           tries == 1 ? "try" : "tries", b.positions);
-    print_response(&b, answer);
+    accepted = respond_until_accepted(&b, opened.session, &tries, &answer);
+    if (accepted) {
+        printf("degree %zu: accepted after %zu %s, a challenge of %zu positions\n", opened.session.degree, tries,
+               tries == 1 ? "try" : "tries", b.positions);
+        print_response(&b, answer);
+    }
     release(&b);
-    return 0;
+    return accepted ? 0 : 1;
 }

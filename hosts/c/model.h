@@ -4,7 +4,8 @@
 
 #include <stdint.h>
 
-typedef unsigned __int128 u128;
+/* An extension: C99 has no integers of 128 bits. */
+__extension__ typedef unsigned __int128 u128;
 
 static uint64_t model_table[21];
 

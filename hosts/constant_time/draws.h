@@ -15,32 +15,32 @@ struct draw {
     uint64_t state; /* of the generator */
 };
 
-static inline unsigned __int128 two_words(uint64_t high, uint64_t low)
+static inline u128 two_words(uint64_t high, uint64_t low)
 {
-    return (unsigned __int128)high << 62 | low;
+    return (u128)high << 62 | low;
 }
 
-static inline unsigned __int128 threshold(size_t i)
+static inline u128 threshold(size_t i)
 {
     return two_words(cdt[2 * i], cdt[2 * i + 1]);
 }
 
 /* Any d, or as often a threshold or the number below it: so each base sample occurs, and each edge of one. */
-static inline unsigned __int128 secret_draw(void)
+static inline u128 secret_draw(void)
 {
-    unsigned __int128 d = two_words(secret_word() >> 2, secret_word() >> 2);
+    u128 d = two_words(secret_word() >> 2, secret_word() >> 2);
     uint64_t chosen = secret_below(20);
     uint64_t less = secret_bit();
 
     for (size_t i = 0; i < 10; i++) {
-        unsigned __int128 here = -(unsigned __int128)(i == chosen);
+        u128 here = -(u128)(i == chosen);
 
         d = ((threshold(i) - less) & here) | (d & ~here);
     }
     return d;
 }
 
-static inline uint64_t base_sample(unsigned __int128 d)
+static inline uint64_t base_sample(u128 d)
 {
     uint64_t x = 0;
 
@@ -53,7 +53,7 @@ static inline uint64_t base_sample(unsigned __int128 d)
 static inline void fill_attempt(uint64_t *w, uint64_t bit)
 {
     uint64_t minus_zero = secret_bit() & ~bit & 1;
-    unsigned __int128 d = secret_draw() & ((unsigned __int128)minus_zero - 1);
+    u128 d = secret_draw() & ((u128)minus_zero - 1);
     /* A rejected attempt has b of 1 or more, so that e(N) is below 2^62; a minus zero has 0. */
     uint64_t b = (1 - bit + secret_below(255 + bit)) & (minus_zero - 1);
     uint64_t x = base_sample(d);

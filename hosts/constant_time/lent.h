@@ -20,8 +20,9 @@ static struct {
 static uint32_t challenge[MOST_POSITIONS];
 static int32_t z[BLISS_SAMPLES(MOST_DEGREE)];
 
-/* Long enough for a response, and so for a draw. */
-static uint32_t list[BLISS_RESPOND_ENTRIES(MOST_DEGREE, MOST_POSITIONS)];
-_Static_assert(BLISS_DRAW_ENTRIES(MOST_ATTEMPTS) <= BLISS_RESPOND_ENTRIES(MOST_DEGREE, MOST_POSITIONS), "a list for both calls");
+/* Long enough for a draw and for a response. */
+#define LARGER(a, b) ((a) > (b) ? (a) : (b))
+static uint32_t list[LARGER(BLISS_DRAW_ENTRIES(MOST_ATTEMPTS), BLISS_RESPOND_ENTRIES(MOST_DEGREE, MOST_POSITIONS))];
+#undef LARGER
 
 #endif

@@ -84,14 +84,14 @@ static inline struct sums sums_of(struct response r, int64_t sign)
 }
 
 /* The whole part of a / b, in as many steps for every a and b; the quotient is below 2^63. */
-static inline uint64_t quotient(unsigned __int128 a, unsigned __int128 b)
+static inline uint64_t quotient(u128 a, u128 b)
 {
     uint64_t found = 0;
 
     for (int shift = 62; shift >= 0; shift--) {
         uint64_t fits = (a >> shift) >= b;
 
-        a -= (b & -(unsigned __int128)fits) << shift;
+        a -= (b & -(u128)fits) << shift;
         found |= fits << shift;
     }
     return found;
@@ -108,9 +108,9 @@ static inline uint64_t cosh_edge(struct sums sums)
 {
     uint64_t doubled = 2 * if_bit((uint64_t)sums.inner >> 63, -(uint64_t)sums.inner, (uint64_t)sums.inner);
     uint64_t e = bliss_exponential(if_bit(doubled <= BLISS_EXPONENTIAL_LIMIT, doubled, BLISS_EXPONENTIAL_LIMIT));
-    unsigned __int128 factor = one + (uint64_t)((unsigned __int128)e * e >> 62);
+    u128 factor = one + (uint64_t)((u128)e * e >> 62);
 
-    return quotient(((unsigned __int128)e << 63) + factor - 1, factor);
+    return quotient(((u128)e << 63) + factor - 1, factor);
 }
 
 /* A word whose 62 bits are below an edge, or not, where there is one. */

@@ -5,6 +5,9 @@
 
 #include <stdint.h>
 
+/* An extension: C99 has no integers of 128 bits. */
+__extension__ typedef unsigned __int128 u128;
+
 static uint64_t secret;
 static uint64_t turn;
 
@@ -24,7 +27,7 @@ static inline uint64_t next(uint64_t *state)
 /* The whole part of a word's fraction of a bound: below the bound. */
 static inline uint64_t below(uint64_t word, uint64_t bound)
 {
-    return (uint64_t)((unsigned __int128)word * bound >> 64);
+    return (uint64_t)((u128)word * bound >> 64);
 }
 
 /* A secret word, number below a bound, or bit. */

@@ -7,6 +7,7 @@ use Rattle.exponential.specs.Exponential.{factorial, entriesFrom as polynomialF
 use Rattle.exponential.specs.Exponential.{reciprocal, scaled, evaluate, squared, squarings, expScaled, expWith, exp, expOrRefusal}
 use Rattle.base_sample.specs.BaseSample.{wordsSmall, neverFalls, isCdt, atOrBelow, baseSample}
 use Rattle.known_points.specs.EvenThresholds.{thresholdsFrom, evenThresholds}
+use Rattle.known_points.specs.DefaultCdt.{cdt215}
 use Rattle.attempt.specs.Attempt.{accepts, sample, bitAt, sampleAt, attemptEntries}
 use Rattle.sampler.specs.Draw.{bitsFrom, drawBits, accepted, samplesFrom, drawY, entriesFrom, drawEntries, sampledBy}
 use Rattle.challenge.specs.Challenge.{positionsBelow, ascends, arePositions, isChallenge}
@@ -18,9 +19,9 @@ use Rattle.session.specs.Calls.{opened, refusalOfDraw, bitsOfDraw, drawRefused,
 use Rattle.session.specs.Calls.{refusalOfRespond, bitOfRespond, zOfRespond, respondRefused, respondServed, respondLeft}
 use Rattle.histories.specs.Histories.{leftBy, eventOf}
 
--- the polynomial table, and the CDT table of the known points
+-- the polynomial table, the CDT table of the known points, and the one that hosts lend
 unfoldable pub tables : Unit {0}
-unfolding polynomial polynomialFrom factorial evenThresholds thresholdsFrom
+unfolding polynomial polynomialFrom factorial evenThresholds thresholdsFrom cdt215
 tables = tt
 
 unfoldable pub refusals : Unit {0}

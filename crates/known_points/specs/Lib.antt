@@ -5,6 +5,7 @@ pub mod SampleNumbers
 pub mod RespondNumbers
 pub mod OpeningRefusals
 pub mod DrawRefusals
+pub mod DefaultCdt
 pub mod RespondRefusals
 pub mod ReadLists
 pub mod Demand3Instance

@@ -33,8 +33,10 @@ impl Counts {
     /// Looks at what a served draw of this degree left: noise that is not all zero where the draw is full, and a list that fits these
     /// counts.
     pub fn check(&self, degree: usize, y: &[i32], list: &[u32]) -> Result<(), Fault> {
-        let length = draw_list_length(self.attempts);
-        check_list(list, self.entries, length, Entry::new(Kind::Draw, degree), Entry::new(Kind::Accepted, self.accepted))?;
+        let filled = filled(list, self.entries);
+        // There are fewer attempts than entries; of more, the number of entries could be beyond all numbers.
+        let is_whole = self.attempts < filled.len() && filled.len() == draw_list_length(self.attempts);
+        check_list(is_whole, filled, (Kind::Draw, degree), (Kind::Accepted, self.accepted))?;
         // All values are joined before the one test, which so depends on no single value.
         let joined = y.iter().fold(0, |joined, value| joined | value);
         match joined {
@@ -47,15 +49,17 @@ impl Counts {
 impl Outcome {
     /// Looks at what a served response of this degree, to a challenge of so many positions, left: a list that fits this outcome.
     pub fn check(&self, degree: usize, positions: usize, list: &[u32]) -> Result<(), Fault> {
-        let length = respond_list_length(degree, positions);
-        check_list(list, self.entries, length, Entry::new(Kind::Response, degree), Entry::new(Kind::Bit, self.bit.into()))
+        let filled = filled(list, self.entries);
+        let is_whole = filled.len() == respond_list_length(degree, positions);
+        check_list(is_whole, filled, (Kind::Response, degree), (Kind::Bit, self.bit.into()))
     }
 }
 
-/// Whether a list was filled with so many entries, as many as a call writes, and from this first entry to this last one.
-fn check_list(list: &[u32], entries: usize, length: usize, first: Entry, last: Entry) -> Result<(), Fault> {
-    match filled(list, entries) {
-        [begin, .., end] if entries == length && Entry(*begin) == first && Entry(*end) == last => Ok(()),
+/// Whether a filled part, which is whole or not, has this kind and place at its beginning and these at its end.
+fn check_list(is_whole: bool, filled: &[u32], first: (Kind, usize), last: (Kind, usize)) -> Result<(), Fault> {
+    let is_at = |(kind, place), entry: u32| Entry(entry).kind() == Some(kind) && Entry(entry).place() == place;
+    match filled {
+        [begin, .., end] if is_whole && is_at(first, *begin) && is_at(last, *end) => Ok(()),
         _ => Err(Fault::List),
     }
 }

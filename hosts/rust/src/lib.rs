@@ -39,6 +39,7 @@
 //! The archive is linked from the repository's `target/staticlib`, where `rt staticlib bliss_box` writes it, or from the folder
 //! that the environment variable `BLISS_BOX_LIB_DIR` names when the crate is built.
 
+mod cdt;
 mod fault;
 mod owned;
 pub mod raw;
@@ -47,6 +48,7 @@ mod refusal;
 mod secret;
 mod tables;
 
+pub use cdt::cdt;
 pub use fault::Fault;
 pub use owned::{CallError, Noise, OwnedDraw, OwnedResponse, Spent};
 pub use read_list::{Entry, Kind};

@@ -14,8 +14,7 @@ const fn polynomial() -> [u64; 21] {
     table
 }
 
-/// The CDT table for deviation 215: ten thresholds, each a high word and a low word. Threshold i is the nearest whole number to
-/// 2^124 times the chance that the base sample is below i, where j has the weight exp(-65536 j² / 92450), j = 0 to 10.
+/// The CDT table for deviation 215: ten thresholds, each a high word and a low word. [`cdt`](fn@crate::cdt) works it out.
 #[rustfmt::skip]
 pub const CDT: [u64; 20] = [
     2970318119077987601,  139537425007862173,

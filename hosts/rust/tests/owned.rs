@@ -138,7 +138,9 @@ fn a_draws_list_that_misfits_is_a_fault() {
     assert_eq!(counts.check(2 * N, &y, &list), Err(Fault::List));
     for wrong in [
         Counts { attempts: counts.attempts + 1, ..counts },
+        Counts { attempts: counts.attempts + (1 << 63), ..counts },
         Counts { accepted: counts.accepted - 1, ..counts },
+        Counts { accepted: counts.accepted + (1 << 24), ..counts },
         Counts { entries: counts.entries - 1, ..counts },
         Counts { entries: 0, ..counts },
     ] {

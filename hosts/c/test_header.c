@@ -1,0 +1,95 @@
+/* Uses each name of the header, in what C99 and C++ have in common: what hosts write must compile without a warning. Linked with
+ * the archive it is run too, and fails where the two do not fit. */
+#include "bliss_box.h"
+
+enum { DEGREE = 4, POSITIONS = 2, LIMIT = BLISS_DRAW_LIMIT(DEGREE) };
+
+static const uint32_t refusals[] = {
+    BLISS_SERVED,        BLISS_REFUSED_DEGREE,    BLISS_REFUSED_LENGTHS, BLISS_REFUSED_CDT,  BLISS_REFUSED_POLYNOMIAL,
+    BLISS_REFUSED_LIMIT, BLISS_REFUSED_CHALLENGE, BLISS_REFUSED_WORDS,   BLISS_REFUSED_LIST, BLISS_REFUSED_NOT_DRAWN,
+    BLISS_REFUSED_KEY,   BLISS_REFUSED_Y,
+};
+
+static const uint32_t kinds[] = {
+    BLISS_KIND_DRAW,     BLISS_KIND_WORD,     BLISS_KIND_CDT, BLISS_KIND_POLYNOMIAL, BLISS_KIND_ACCEPTED_BEFORE,
+    BLISS_KIND_ACCEPTED, BLISS_KIND_RESPONSE, BLISS_KIND_KEY, BLISS_KIND_BIT,
+};
+
+static const uint64_t polynomial[BLISS_POLYNOMIAL_WORDS] = BLISS_POLYNOMIAL;
+static const uint64_t cdt[BLISS_CDT_WORDS] = BLISS_CDT_215;
+static const uint32_t challenge[POSITIONS] = {0, 3};
+
+/* An attempt with words of 0 is accepted, and its sample is 0; the first has a b of 1. A response with a key of 0 is accepted. */
+static const uint64_t draw_words[BLISS_DRAW_WORDS(LIMIT)] = {0, 0, 1, 0};
+static const uint64_t respond_words[BLISS_RESPOND_WORDS] = {0, 0, 0};
+static const int32_t key[BLISS_SAMPLES(DEGREE)] = {0};
+
+static int32_t y[BLISS_SAMPLES(DEGREE)];
+static int32_t z[BLISS_SAMPLES(DEGREE)];
+static uint32_t draw_list[BLISS_DRAW_ENTRIES(LIMIT)];
+static uint32_t respond_list[BLISS_RESPOND_ENTRIES(DEGREE, POSITIONS)];
+
+/* Whether refusals go up from 0, and kinds from 1. */
+static bool numbers_go_up(void)
+{
+    for (size_t i = 0; i < sizeof refusals / sizeof *refusals; i++)
+        if (refusals[i] != i)
+            return false;
+    for (size_t i = 0; i < sizeof kinds / sizeof *kinds; i++)
+        if (kinds[i] != i + 1)
+            return false;
+    return true;
+}
+
+static bool entry_is_taken_apart(uint32_t kind, size_t place)
+{
+    uint32_t entry = BLISS_ENTRY(kind, place);
+
+    return BLISS_ENTRY_KIND(entry) == kind && BLISS_ENTRY_PLACE(entry) == place && bliss_entry_is(entry, kind, place);
+}
+
+static bool exponential_ends_at_its_limit(void)
+{
+    return bliss_exponential(BLISS_EXPONENTIAL_LIMIT) != BLISS_EXPONENTIAL_REFUSED &&
+           bliss_exponential(BLISS_EXPONENTIAL_LIMIT + 1) == BLISS_EXPONENTIAL_REFUSED;
+}
+
+static bool draw_is_full(bliss_session *session)
+{
+    bliss_drawn drawn = bliss_draw(*session, LIMIT, cdt, BLISS_CDT_WORDS, polynomial, BLISS_POLYNOMIAL_WORDS, draw_words,
+                                   BLISS_DRAW_WORDS(LIMIT), y, BLISS_SAMPLES(DEGREE), draw_list, BLISS_DRAW_ENTRIES(LIMIT));
+    bliss_draw_answer answer = drawn.answer;
+
+    *session = drawn.session;
+    return answer.refusal == BLISS_SERVED && answer.accepted == BLISS_SAMPLES(DEGREE) && session->drawn &&
+           bliss_draw_fits(answer, DEGREE, draw_list, BLISS_DRAW_ENTRIES(LIMIT)) &&
+           !bliss_noise_is_zero(y, BLISS_SAMPLES(DEGREE));
+}
+
+static bool response_is_accepted(bliss_session *session)
+{
+    size_t list_length = BLISS_RESPOND_ENTRIES(DEGREE, POSITIONS);
+    bliss_responded responded = bliss_respond(*session, challenge, POSITIONS, polynomial, BLISS_POLYNOMIAL_WORDS, respond_words,
+                                              BLISS_RESPOND_WORDS, key, BLISS_SAMPLES(DEGREE), y, BLISS_SAMPLES(DEGREE), z,
+                                              BLISS_SAMPLES(DEGREE), respond_list, list_length);
+    bliss_respond_answer answer = responded.answer;
+
+    *session = responded.session;
+    return answer.refusal == BLISS_SERVED && answer.bit && !session->drawn &&
+           bliss_filled(respond_list, list_length, answer.entries) == list_length &&
+           bliss_respond_fits(answer, DEGREE, POSITIONS, respond_list, list_length);
+}
+
+int main(void)
+{
+    bliss_opened opened;
+
+    if (bliss_version() != BLISS_BOX_VERSION)
+        return 1;
+    opened = bliss_open(DEGREE);
+    if (opened.refusal != BLISS_SERVED || !draw_is_full(&opened.session) || !response_is_accepted(&opened.session))
+        return 2;
+    if (!numbers_go_up() || !entry_is_taken_apart(BLISS_KIND_BIT, 1) || !exponential_ends_at_its_limit())
+        return 3;
+    return POSITIONS <= BLISS_CHALLENGE_LIMIT(DEGREE) && BLISS_STACK_BYTES > 0 ? 0 : 4;
+}
