@@ -8,6 +8,7 @@ const COMMANDS: [&str; 5] = ["draw", "respond", "exp", "list", "demo"];
 fn help_and_version_are_printed() {
     let help = printed(&["--help"]);
     assert!(help.contains("Exit status:\n    0  served"));
+    assert!(help.lines().all(|line| line.len() <= 100));
     for command in COMMANDS {
         assert!(help.contains(&format!("\n    bliss-box {command}")));
         let help = printed(&[command, "--help"]);

@@ -1,6 +1,6 @@
 //! `bliss-box respond`: draws noise, and answers a challenge with it and a key.
 
-use bliss_box::{challenge_limit, sample_count, CallError, OwnedDraw, Refusal, Session, POLYNOMIAL, RESPOND_WORDS};
+use bliss_box::{challenge_limit, sample_count, CallError, OwnedDraw, Refusal, Secret, Session, POLYNOMIAL, RESPOND_WORDS};
 
 use crate::arguments::{Arguments, Command, Operands};
 use crate::draw::{self, Drawing};
@@ -61,8 +61,8 @@ struct Responding {
 /// What a try came to.
 struct Try {
     session: Session,
-    /// The response, where it is accepted.
-    z: Option<Vec<i32>>,
+    /// The response, where it is accepted: secret until it is printed.
+    z: Option<Secret<i32>>,
     list: Vec<u32>,
     summary: String,
 }
@@ -87,7 +87,7 @@ impl Responding {
         let end = if responded.z.is_some() { "accepted" } else { "rejected" };
         let summary = format!("{summary}; response {end}: entries {}", responded.list.len());
         list.extend(responded.list);
-        Ok(Try { session: responded.session, z: responded.z, list, summary })
+        Ok(Try { session: responded.session, z: responded.z.map(Secret::from), list, summary })
     }
 
     /// A refused response that was lent so many words, and what was wrong with what the command line gave it.
