@@ -139,6 +139,20 @@ impl Session {
     /// `y` is all zero. The rest of `list` is unchanged. A refused draw changes neither `y` nor `list`.
     ///
     /// With [`CDT`] an attempt is accepted with a chance of 0.678; [`draw_limit`] gives a limit that is all but never spent.
+    ///
+    /// ```
+    /// use bliss_box::{draw_limit, draw_list_length, draw_word_count, sample_count, Secret, Session, CDT, POLYNOMIAL};
+    ///
+    /// let limit = draw_limit(512);
+    /// let words = Secret::system_words(draw_word_count(limit))?; // used for this draw alone
+    /// let mut y = Secret::zeroed(sample_count(512));
+    /// let mut list = vec![0; draw_list_length(limit)];
+    ///
+    /// let drawn = Session::open(512)?.draw(limit, &CDT, &POLYNOMIAL, &words, &mut y, &mut list);
+    /// drawn.answer?.check(512, &y, &list)?; // faults
+    /// # assert!(drawn.session.is_drawn());
+    /// # Ok::<(), Box<dyn std::error::Error>>(())
+    /// ```
     pub fn draw(self, limit: usize, cdt: &[u64], polynomial: &[u64], words: &[u64], y: &mut [i32], list: &mut [u32]) -> Drawn {
         // SAFETY: each pointer and length are those of one slice, so the memory is aligned and valid for as many values; an
         // empty slice's pointer dangles, and at length 0 none is read. The two buffers that are written are borrowed for this
