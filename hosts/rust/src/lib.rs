@@ -261,6 +261,7 @@ mod tests {
         let numbers = [env!("CARGO_PKG_VERSION_MAJOR"), env!("CARGO_PKG_VERSION_MINOR"), env!("CARGO_PKG_VERSION_PATCH")];
         let [major, minor, patch] = numbers.map(|number| number.parse::<u32>().unwrap());
         assert_eq!(raw::VERSION, 10_000 * major + 100 * minor + patch);
+        // SAFETY: the call takes nothing.
         assert_eq!(unsafe { raw::bliss_version() }, raw::VERSION);
     }
 
