@@ -6,7 +6,7 @@ use std::error;
 use std::fmt;
 
 use crate::{challenge_limit, draw_list_length, respond_list_length, sample_count};
-use crate::{Counts, Fault, Refusal, Secret, Session};
+use crate::{Counts, Fault, Outcome, Refusal, Secret, Session};
 
 /// What a draw with memory of its own leaves.
 #[derive(Debug)]
@@ -114,11 +114,18 @@ impl Session {
             Ok(counts) => counts,
             Err(refusal) => return Err(CallError::Refused(refusal, drawn.session)),
         };
-        counts.check(n, &y, &list)?;
+        Ok(OwnedDraw::of(drawn.session, counts, y, list)?)
+    }
+}
+
+impl OwnedDraw {
+    /// What a served draw left, where there is no fault in it.
+    fn of(session: Session, counts: Counts, y: Secret<i32>, mut list: Vec<u32>) -> Result<OwnedDraw, Fault> {
+        counts.check(session.degree(), &y, &list)?;
         list.truncate(counts.entries);
-        Ok(match drawn.session.is_drawn() {
-            true => OwnedDraw::Full(Noise { session: drawn.session, y, counts, list }),
-            false => OwnedDraw::Spent(Spent { session: drawn.session, counts, list }),
+        Ok(match session.is_drawn() {
+            true => OwnedDraw::Full(Noise { session, y, counts, list }),
+            false => OwnedDraw::Spent(Spent { session, counts, list }),
         })
     }
 }
@@ -171,7 +178,65 @@ impl Noise {
                 return Err(CallError::Refused(refusal, noise));
             }
         };
-        outcome.check(n, challenge.len(), &list)?;
-        Ok(OwnedResponse { session: responded.session, z: outcome.bit.then(|| z.to_vec()), list })
+        Ok(OwnedResponse::of(responded.session, outcome, challenge.len(), z, list)?)
+    }
+}
+
+impl OwnedResponse {
+    /// What a served response to so many positions left, where there is no fault in it.
+    fn of(
+        session: Session,
+        outcome: Outcome,
+        positions: usize,
+        z: Secret<i32>,
+        list: Vec<u32>,
+    ) -> Result<OwnedResponse, Fault> {
+        outcome.check(session.degree(), positions, &list)?;
+        Ok(OwnedResponse { session, z: outcome.bit.then(|| z.to_vec()), list })
+    }
+}
+
+#[cfg(test)]
+mod tests {
+    use super::*;
+    use crate::{draw_word_count, CDT, POLYNOMIAL, RESPOND_WORDS};
+
+    const N: usize = 4;
+
+    /// Each attempt draws 1, which is accepted.
+    fn noise() -> Noise {
+        let words = [0, 0, 1, 0].repeat(2 * N);
+        assert_eq!(words.len(), draw_word_count(2 * N));
+        match Session::open(N).unwrap().draw_owned(2 * N, &CDT, &POLYNOMIAL, Secret::from(words)) {
+            Ok(OwnedDraw::Full(noise)) => noise,
+            other => panic!("{other:?}"),
+        }
+    }
+
+    #[test]
+    fn a_draw_with_a_fault_gives_no_noise() {
+        let after = |spoil: fn(&mut Noise)| {
+            let mut noise = noise();
+            spoil(&mut noise);
+            let Noise { session, y, counts, list } = noise;
+            OwnedDraw::of(session, counts, y, list).map(drop)
+        };
+        assert_eq!(after(|_| ()), Ok(()));
+        assert_eq!(after(|noise| noise.y.wipe()), Err(Fault::ZeroNoise));
+        assert_eq!(after(|noise| noise.list[0] += 1), Err(Fault::List));
+        assert_eq!(after(|noise| noise.counts.accepted -= 1), Err(Fault::List));
+    }
+
+    #[test]
+    fn a_response_with_a_fault_gives_no_z() {
+        let after = |spoil: fn(&mut Outcome, &mut Vec<u32>)| {
+            let responded = noise().respond(&[0, 3], &POLYNOMIAL, Secret::zeroed(RESPOND_WORDS), &[0; 2 * N]).unwrap();
+            let (mut outcome, mut list) = (Outcome { bit: true, entries: responded.list.len() }, responded.list);
+            spoil(&mut outcome, &mut list);
+            OwnedResponse::of(responded.session, outcome, 2, Secret::from(vec![1; 2 * N]), list).map(|response| response.z)
+        };
+        assert_eq!(after(|_, _| ()), Ok(Some(vec![1; 2 * N])));
+        assert_eq!(after(|outcome, _| outcome.bit = false), Err(Fault::List));
+        assert_eq!(after(|_, list| list[0] += 1), Err(Fault::List));
     }
 }

@@ -59,8 +59,9 @@ fn spent_draws_print_no_samples() {
 
 #[test]
 fn noise_of_zeros_is_a_fault() {
-    let (words, list) = (file("zero-words", "0\n".repeat(32)), path("zero-list"));
+    let (words, folder) = (file("zero-words", "0\n".repeat(32)), folder("zero"));
+    let list = format!("{folder}/list");
     let problem = "fault: the noise that was drawn is all zero, as from words that are not random";
     fails(&["draw", "--degree", "4", "--limit", "8", "--words", &words, "--list", &list], 1, problem);
-    assert!(fs::metadata(list).is_err());
+    assert!(names_in(&folder).is_empty());
 }

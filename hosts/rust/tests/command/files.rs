@@ -94,7 +94,7 @@ fn files_that_cannot_be_read_are_named() {
         refused(&path("missing"), "cannot be read: No such file or directory (os error 2)");
         refused(env!("CARGO_TARGET_TMPDIR"), "cannot be read: Is a directory (os error 21)");
         let empty = match with.last().unwrap().as_str() {
-            "--words" => "refusal 7: a draw wants 288 words, and 0 are left",
+            "--words" => "refusal 7: a draw wants 288 words, and it has 0 left",
             _ => "there is no number in it",
         };
         refused(&file("empty", ""), empty);
@@ -145,9 +145,9 @@ fn tables_without_end_are_read_to_the_first_number_too_many() {
         let ran = run_endless(program(arguments), "1\n");
         assert_eq!((ran.status, ran.out.as_str(), ran.err), (1, "", format!("bliss-box: standard input: {problem}\n")));
     };
-    refused(&["draw", "--cdt", "-"], "refusal 2: it holds more than 20 values, and 20 are wanted");
+    refused(&["draw", "--cdt", "-"], "refusal 2: its length is more than 20, and 20 is wanted");
     let respond = ["respond", "--degree", "4", "--challenge", &challenge, "--key", "-"];
-    refused(&respond, "refusal 2: it holds more than 8 values, and 8 are wanted");
+    refused(&respond, "refusal 2: its length is more than 8, and 8 is wanted");
     let respond = ["respond", "--degree", "4", "--key", &key, "--challenge", "-"];
     refused(&respond, "refusal 6: it holds more than 4 positions, the most at degree 4");
 }

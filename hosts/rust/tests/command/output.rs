@@ -92,7 +92,7 @@ fn devices_and_pipes_may_be_read_and_written() {
     let ran = run(&["draw", "--words", "/dev/null", "--list", "/dev/null"]);
     assert_eq!(
         (ran.status, ran.err.as_str()),
-        (1, "bliss-box: /dev/null: refusal 7: a draw wants 8416 words, and 0 are left\n")
+        (1, "bliss-box: /dev/null: refusal 7: a draw wants 8416 words, and it has 0 left\n")
     );
     assert_eq!(run(&["draw", "--list", "/dev/null"]).status, 0);
     let ran = ended(program_by("\"$0\" \"$@\" | cat", &["draw", "--degree", "4", "--list", "/dev/fd/1"]).spawn().unwrap());
@@ -150,7 +150,7 @@ fn a_run_that_fails_leaves_the_older_file() {
 
     let ran = run(&respond);
     assert_eq!((ran.status, ran.out.as_str()), (1, ""));
-    assert!(ran.err.ends_with("refusal 7: a response wants 3 words, and 0 are left\n"), "{}", ran.err);
+    assert!(ran.err.ends_with("refusal 7: a response wants 3 words, and it has 0 left\n"), "{}", ran.err);
     assert_eq!(inputs.contents(), before);
 
     let full = OpenOptions::new().write(true).open("/dev/full").unwrap();
@@ -193,13 +193,14 @@ fn what_cannot_be_written_is_said() {
 
 #[test]
 fn a_closed_standard_output_is_an_error() {
-    let list = path("closed-list");
+    let folder = folder("closed");
+    let list = format!("{folder}/list");
     let draw = ["draw", "--degree", "4", "--list", &list];
     for arguments in [&["--help"][..], &["--version"], &["draw", "--help"], &["exp", "0"], &["demo"], &draw] {
         let ran = ended(program_by("exec \"$0\" \"$@\" >&-", arguments).spawn().unwrap());
         assert_eq!((ran.status, ran.err.as_str()), (1, "bliss-box: standard output: it is closed\n"), "{arguments:?}");
     }
-    assert!(fs::metadata(list).is_err());
+    assert!(names_in(&folder).is_empty());
     // Who hands over /dev/null, opened for reading too, wants nothing printed.
     let null = OpenOptions::new().read(true).write(true).open("/dev/null").unwrap();
     assert_eq!(ended(program(&["exp", "0"]).stdout(null).spawn().unwrap()).status, 0);

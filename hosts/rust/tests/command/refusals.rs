@@ -12,7 +12,7 @@ fn no_word_is_used_twice() {
         let words = file(name, lines(words));
         let with = ["respond", "--degree", "4", "--limit", "8", "--key", &key, "--challenge", &challenge, "--words", &words];
         let ran = run(&with);
-        let problem = format!("bliss-box: {words}: refusal 7: {call} wants {wanted} words, and {left} are left\n");
+        let problem = format!("bliss-box: {words}: refusal 7: {call} wants {wanted} words, and it has {left} left\n");
         assert_eq!((ran.status, ran.out.as_str()), (1, ""));
         assert!(ran.err.ends_with(&problem), "{}", ran.err);
         ran.err.lines().count()
@@ -56,9 +56,9 @@ fn cdt_with(name: &str, others: &[(usize, u64)]) -> String {
 
 #[test]
 fn a_refused_cdt_is_named_with_its_length_or_its_lines() {
-    for (count, held) in [(1, "1 values"), (19, "19 values"), (21, "more than 20 values"), (25, "more than 20 values")] {
+    for (count, held) in [(1, "1"), (19, "19"), (21, "more than 20"), (25, "more than 20")] {
         let cdt = cdt_file(&format!("cdt-of-{count}"), &vec![1 << 61; count]);
-        fails(&["draw", "--cdt", &cdt], 1, &format!("{cdt}: refusal 2: it holds {held}, and 20 are wanted"));
+        fails(&["draw", "--cdt", &cdt], 1, &format!("{cdt}: refusal 2: its length is {held}, and 20 is wanted"));
     }
     let refused = |name: &str, others: &[(usize, u64)], line: usize, problem: &str| {
         let cdt = cdt_with(name, others);
@@ -80,7 +80,7 @@ fn refusals_come_in_their_order() {
     let refused =
         |with: &[&str], problem: &str| fails(&[&["draw", "--degree", "4", "--words", &words], with].concat(), 1, problem);
     let (short, falling) = (cdt_file("order-short", &CDT[1..]), cdt_with("order-falling", &[(2, 0)]));
-    let problem = format!("{short}: refusal 2: it holds 19 values, and 20 are wanted");
+    let problem = format!("{short}: refusal 2: its length is 19, and 20 is wanted");
     refused(&["--cdt", &short], &problem);
     refused(&["--cdt", &short, "--limit", "7"], &problem);
     let problem = "refusal 3: threshold 2 (lines 4 and 5) is below threshold 1 (lines 2 and 3)";
@@ -88,7 +88,7 @@ fn refusals_come_in_their_order() {
     refused(&["--cdt", &falling, "--limit", "7"], &format!("{falling}:4: {problem}"));
     refused(&["--limit", "7"], "--limit 7: refusal 5: at degree 4 the limit is 8 to 128");
     refused(&["--limit", "18446744073709551615"], "--limit 18446744073709551615: refusal 5: at degree 4 the limit is 8 to 128");
-    refused(&[], &format!("{words}: refusal 7: a draw wants 288 words, and 1 are left"));
+    refused(&[], &format!("{words}: refusal 7: a draw wants 288 words, and it has 1 left"));
 }
 
 #[test]
@@ -99,7 +99,7 @@ fn refusals_of_responses_are_said() {
     };
     for (count, held) in [(7, "7"), (9, "more than 8"), (16, "more than 8")] {
         let key = file(&format!("key-of-{count}"), lines(&vec![1; count]));
-        refused(&key, &challenge, &format!("{key}: refusal 2: it holds {held} values, and 8 are wanted"));
+        refused(&key, &challenge, &format!("{key}: refusal 2: its length is {held}, and 8 is wanted"));
     }
     for value in [-8, 8] {
         let key = file(&format!("key-with{value}"), lines(&[0, 0, 0, 0, 0, 0, 0, value]));

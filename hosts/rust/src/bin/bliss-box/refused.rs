@@ -34,12 +34,12 @@ pub fn refused(refusal: Refusal, breach: Option<Breach>) -> Failure {
 
 /// Refusal 2: a table of another length.
 pub fn wrong_length<T: Whole>(table: &Table<T>, wanted: usize) -> Option<Breach> {
-    let count = match table.numbers().len() {
+    let length = match table.numbers().len() {
         _ if table.is_too_long() => format!("more than {wanted}"),
-        count if count != wanted => count.to_string(),
+        length if length != wanted => length.to_string(),
         _ => return None,
     };
-    Some(Breach::new(table.name(), format!("it holds {count} values, and {wanted} are wanted")))
+    Some(Breach::new(table.name(), format!("its length is {length}, and {wanted} is wanted")))
 }
 
 /// Refusal 3: a word of the CDT that is too large, or a threshold that falls.
@@ -79,5 +79,5 @@ pub fn broken_challenge(challenge: &Table<u32>, n: usize) -> Option<Breach> {
 
 /// Refusal 7: a file that has too few words left for a call.
 pub fn too_few_words(words: &Words, call: &str, wanted: usize, left: usize) -> Option<Breach> {
-    Some(Breach::new(words.file_name()?, format!("{call} wants {wanted} words, and {left} are left")))
+    Some(Breach::new(words.file_name()?, format!("{call} wants {wanted} words, and it has {left} left")))
 }
