@@ -8,7 +8,7 @@ use std::process;
 fn main() {
     println!("cargo:rerun-if-env-changed=BLISS_BOX_LIB_DIR");
     let package = env::var("CARGO_MANIFEST_DIR").expect("cargo names the package's folder");
-    let folder = env::var("BLISS_BOX_LIB_DIR").unwrap_or_else(|_| "../../target/staticlib".into());
+    let folder = env::var("BLISS_BOX_LIB_DIR").unwrap_or_else(|_| "../../../target/staticlib".into());
     let folder = Path::new(&package).join(folder);
     let archive = folder.join("libbliss_box.a");
     println!("cargo:rerun-if-changed={}", archive.display());

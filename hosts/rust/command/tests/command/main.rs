@@ -9,7 +9,7 @@ mod list;
 mod output;
 // The other tests use all of it.
 #[allow(dead_code)]
-#[path = "../random/mod.rs"]
+#[path = "../../../wrapper/tests/random/mod.rs"]
 mod random;
 mod refusals;
 mod respond;
