@@ -1,5 +1,5 @@
-/* The BLISS-I sampling box, for a host in C (C99 on) or C++ (C++11 on). Link target/staticlib/libbliss_box.a, which
- * `rt staticlib bliss_box` proves and writes.
+/* The BLISS-I sampling box, for a host in C (C99 on) or C++ (C++11 on). Link libbliss_box.a, which `rt staticlib bliss_box` proves
+ * and writes to target/staticlib; once ./install has put both in their places, pkg-config knows them as bliss_box.
  *
  * Layouts may change with any version: build header and archive from one version, and compare bliss_version() with
  * BLISS_BOX_VERSION at the host's start.
@@ -15,7 +15,12 @@
  * Calls may run at the same time in any threads, as long as no buffer that one of them writes is used by another: nothing else is
  * shared, and a session is a value.
  *
- * What stands under Time, and the size of the stack, is tested on the archive, and not proved. */
+ * What calls have in common comes first. Then each call has a section: its lengths and tables, its answer, the call itself and its
+ * tests against faults. What stands under Time, and the size of the stack, is tested on the archive, and not proved.
+ *
+ * The calls are proved as they are written; a source of words that fails unnoticed, a machine that skips an instruction and a host
+ * that hands on the wrong buffer are outside of the proof. So a host makes the tests against faults after each call. Where one
+ * finds a fault, the host neither uses the noise nor publishes the response. */
 #ifndef BLISS_BOX_H
 #define BLISS_BOX_H
 
@@ -26,6 +31,8 @@
 #ifdef __cplusplus
 extern "C" {
 #endif
+
+/* ==== Common to all calls ================================================================================================= */
 
 /* gcc and clang warn of a result that is not used, and of a null pointer. */
 #ifdef __GNUC__
@@ -42,6 +49,10 @@ extern "C" {
 #else
 #define BLISS_CAST(type, value) ((type)(value))
 #endif
+
+/* A claim about the layout that the archive has, on x86-64. A false claim makes an array of length -1, which no compiler takes:
+ * C99 has no static assertions. */
+#define BLISS_LAYOUT(name, claim) typedef char bliss_layout_of_##name[(claim) ? 1 : -1]
 
 /* The version of this header, 10000 * major + 100 * minor + patch: 0.2.0. */
 #define BLISS_BOX_VERSION 200
@@ -79,62 +90,24 @@ typedef struct {
     size_t degree;
     bool drawn;
 } bliss_session;
-
-typedef struct {
-    uint32_t refusal;
-    bliss_session session;
-} bliss_opened;
-
-/* What a draw counted; all 0 where it is refused. */
-typedef struct {
-    uint32_t refusal;
-    size_t attempts;
-    size_t accepted; /* 2n if the draw is full, fewer if it is spent */
-    size_t entries;  /* written from the start of the list */
-} bliss_draw_answer;
-
-typedef struct {
-    bliss_draw_answer answer;
-    bliss_session session;
-} bliss_drawn;
-
-/* What a response came to; refused, the bit is false and the count 0. */
-typedef struct {
-    uint32_t refusal;
-    bool bit;       /* true: z is the response; false: it is rejected */
-    size_t entries; /* written from the start of the list */
-} bliss_respond_answer;
-
-typedef struct {
-    bliss_respond_answer answer;
-    bliss_session session;
-} bliss_responded;
-
-/* The layout that the archive has, on x86-64. A false claim makes an array of length -1, which no compiler takes: C99 has no
- * static assertions. */
-#define BLISS_LAYOUT(name, claim) typedef char bliss_layout_of_##name[(claim) ? 1 : -1]
 BLISS_LAYOUT(session, sizeof(bliss_session) == 16 && offsetof(bliss_session, drawn) == 8);
-BLISS_LAYOUT(opened, sizeof(bliss_opened) == 24 && offsetof(bliss_opened, session) == 8);
-BLISS_LAYOUT(draw_answer, sizeof(bliss_draw_answer) == 32 && offsetof(bliss_draw_answer, attempts) == 8 &&
-                              offsetof(bliss_draw_answer, accepted) == 16 && offsetof(bliss_draw_answer, entries) == 24);
-BLISS_LAYOUT(drawn, sizeof(bliss_drawn) == 48 && offsetof(bliss_drawn, session) == 32);
-BLISS_LAYOUT(respond_answer, sizeof(bliss_respond_answer) == 16 && offsetof(bliss_respond_answer, bit) == 4 &&
-                                 offsetof(bliss_respond_answer, entries) == 8);
-BLISS_LAYOUT(responded, sizeof(bliss_responded) == 32 && offsetof(bliss_responded, session) == 16);
-#undef BLISS_LAYOUT
 
-/* The lengths that calls ask for, at degree n: of the tables; of y, z and the key; for a draw with a limit of attempts; and for a
- * response to a challenge of so many positions, at most BLISS_CHALLENGE_LIMIT. With BLISS_CDT_215 a draw of BLISS_DRAW_LIMIT(n)
- * attempts is spent with a chance of at most 2^-64, at every degree. */
-#define BLISS_CDT_WORDS 20
-#define BLISS_POLYNOMIAL_WORDS 21
+/* The length of y, of z and of the key, at degree n. */
 #define BLISS_SAMPLES(n) (2 * BLISS_CAST(size_t, n))
-#define BLISS_DRAW_LIMIT(n) (4 * BLISS_CAST(size_t, n) + 56)
-#define BLISS_DRAW_WORDS(limit) (4 * BLISS_CAST(size_t, limit))
-#define BLISS_DRAW_ENTRIES(limit) (46 * BLISS_CAST(size_t, limit) + 2)
-#define BLISS_CHALLENGE_LIMIT(n) (BLISS_CAST(size_t, n) < 64 ? BLISS_CAST(size_t, n) : BLISS_CAST(size_t, 64))
-#define BLISS_RESPOND_WORDS 3
-#define BLISS_RESPOND_ENTRIES(n, positions) (2 * BLISS_CAST(size_t, n) * BLISS_CAST(size_t, positions) + 47)
+
+/* The polynomial table: entry j is the whole part of 2^62 / j!. */
+#define BLISS_POLYNOMIAL_WORDS 21
+#define BLISS_POLYNOMIAL                                                                                                  \
+    {                                                                                                                     \
+        UINT64_C(4611686018427387904), UINT64_C(4611686018427387904), UINT64_C(2305843009213693952),                      \
+            UINT64_C(768614336404564650), UINT64_C(192153584101141162), UINT64_C(38430716820228232),                      \
+            UINT64_C(6405119470038038), UINT64_C(915017067148291), UINT64_C(114377133393536), UINT64_C(12708570377059),   \
+            UINT64_C(1270857037705), UINT64_C(115532457973), UINT64_C(9627704831), UINT64_C(740592679),                   \
+            UINT64_C(52899477), UINT64_C(3526631), UINT64_C(220414), UINT64_C(12965), UINT64_C(720), UINT64_C(37),        \
+            UINT64_C(1)                                                                                                   \
+    }
+
+/* ==== Read lists ========================================================================================================== */
 
 /* The kinds of entries in a read list, by what the place of an entry is. */
 enum {
@@ -154,11 +127,74 @@ enum {
 #define BLISS_ENTRY_KIND(entry) (BLISS_CAST(uint32_t, entry) >> 24)
 #define BLISS_ENTRY_PLACE(entry) (BLISS_CAST(uint32_t, entry) & 0xffffff)
 
+/* Whether an entry has this kind and this place. */
+BLISS_MUST_USE
+static inline bool bliss_entry_is(uint32_t entry, uint32_t kind, size_t place)
+{
+    return BLISS_ENTRY_KIND(entry) == kind && BLISS_ENTRY_PLACE(entry) == place;
+}
+
+/* The length of the filled part of a list, for the count of entries of an answer. The part starts where the list starts.
+ * Gives: the count; 0 where it is over the list's length. */
+BLISS_MUST_USE BLISS_NONNULL
+size_t bliss_filled(const uint32_t *list, size_t list_length, size_t count);
+
+/* ==== Open ================================================================================================================ */
+
+typedef struct {
+    uint32_t refusal;
+    bliss_session session;
+} bliss_opened;
+BLISS_LAYOUT(opened, sizeof(bliss_opened) == 24 && offsetof(bliss_opened, session) == 8);
+
 /* Opens a session of degree n.
  * Gives: a session with nothing drawn; refused, one of degree 0.
  * Refuses: 1. */
 BLISS_MUST_USE
 bliss_opened bliss_open(size_t n);
+
+/* ==== Draw ================================================================================================================ */
+
+/* A limit of attempts for degree n: with BLISS_CDT_215 a draw of so many is spent with a chance of at most 2^-64, at every
+ * degree. */
+#define BLISS_DRAW_LIMIT(n) (4 * BLISS_CAST(size_t, n) + 56)
+
+/* The lengths of words and list that a draw asks for, with a limit of attempts. */
+#define BLISS_DRAW_WORDS(limit) (4 * BLISS_CAST(size_t, limit))
+#define BLISS_DRAW_ENTRIES(limit) (46 * BLISS_CAST(size_t, limit) + 2)
+
+/* The CDT table for deviation 215: ten thresholds, each a high word and a low word. Threshold i is the nearest whole number to
+ * 2^124 times the chance that the base sample is below i, where j has the weight exp(-65536 j^2 / 92450), j = 0 to 10. */
+#define BLISS_CDT_WORDS 20
+#define BLISS_CDT_215                                                             \
+    {                                                                             \
+        UINT64_C(2970318119077987601), UINT64_C(139537425007862173),              \
+            UINT64_C(4432293587828485953), UINT64_C(2218333992557025118),         \
+            UINT64_C(4606615286148199816), UINT64_C(2870311867292663647),         \
+            UINT64_C(4611650721831976652), UINT64_C(3044458817194566665),         \
+            UINT64_C(4611685958667561403), UINT64_C(456626370962175178),          \
+            UINT64_C(4611686018402853103), UINT64_C(3423392530604428891),         \
+            UINT64_C(4611686018427385463), UINT64_C(918063073876867824),          \
+            UINT64_C(4611686018427387903), UINT64_C(4340391528176902920),         \
+            UINT64_C(4611686018427387903), UINT64_C(4611684434372927295),         \
+            UINT64_C(4611686018427387903), UINT64_C(4611686018425147250)          \
+    }
+
+/* What a draw counted; all 0 where it is refused. */
+typedef struct {
+    uint32_t refusal;
+    size_t attempts;
+    size_t accepted; /* 2n if the draw is full, fewer if it is spent */
+    size_t entries;  /* written from the start of the list */
+} bliss_draw_answer;
+BLISS_LAYOUT(draw_answer, sizeof(bliss_draw_answer) == 32 && offsetof(bliss_draw_answer, attempts) == 8 &&
+                              offsetof(bliss_draw_answer, accepted) == 16 && offsetof(bliss_draw_answer, entries) == 24);
+
+typedef struct {
+    bliss_draw_answer answer;
+    bliss_session session;
+} bliss_drawn;
+BLISS_LAYOUT(drawn, sizeof(bliss_drawn) == 48 && offsetof(bliss_drawn, session) == 32);
 
 /* Draws 2n samples of Gaussian noise into y.
  * Needs:   y and list writable, and apart from each other and from the rest.
@@ -177,6 +213,55 @@ bliss_drawn bliss_draw(bliss_session session, size_t limit,                  //
                        const uint64_t *words, size_t words_length,           //
                        int32_t *y, size_t y_length,                          //
                        uint32_t *list, size_t list_length);
+
+/* Whether the noise is all zero, after a draw that is full. A response would then be the product of key and challenge alone, and
+ * some of those give the key away. All values are joined before the one test, so that no jump depends on a single value. */
+BLISS_MUST_USE BLISS_NONNULL
+static inline bool bliss_noise_is_zero(const int32_t *y, size_t y_length)
+{
+    int32_t joined = 0;
+
+    for (size_t i = 0; i < y_length; i++)
+        joined |= y[i];
+    return joined == 0;
+}
+
+/* Whether the list of a draw at degree n fits its answer: in the number of its entries, and in the first and the last of them.
+ * Gives: false where the draw is refused. Nothing behind the list's length is read, whatever the answer says. */
+BLISS_MUST_USE BLISS_NONNULL
+static inline bool bliss_draw_fits(bliss_draw_answer answer, size_t n, const uint32_t *list, size_t list_length)
+{
+    size_t filled = bliss_filled(list, list_length, answer.entries);
+
+    /* There are fewer attempts than entries; of more, the number of entries could be above 2^64, and cut off. */
+    return answer.attempts < filled && filled == BLISS_DRAW_ENTRIES(answer.attempts) &&
+           bliss_entry_is(list[0], BLISS_KIND_DRAW, n) &&
+           bliss_entry_is(list[filled - 1], BLISS_KIND_ACCEPTED, answer.accepted);
+}
+
+/* ==== Respond ============================================================================================================= */
+
+/* The most positions of a challenge, at degree n. */
+#define BLISS_CHALLENGE_LIMIT(n) (BLISS_CAST(size_t, n) < 64 ? BLISS_CAST(size_t, n) : BLISS_CAST(size_t, 64))
+
+/* The lengths of words and list that a response asks for, at degree n with a challenge of so many positions. */
+#define BLISS_RESPOND_WORDS 3
+#define BLISS_RESPOND_ENTRIES(n, positions) (2 * BLISS_CAST(size_t, n) * BLISS_CAST(size_t, positions) + 47)
+
+/* What a response came to; refused, the bit is false and the count 0. */
+typedef struct {
+    uint32_t refusal;
+    bool bit;       /* true: z is the response; false: it is rejected */
+    size_t entries; /* written from the start of the list */
+} bliss_respond_answer;
+BLISS_LAYOUT(respond_answer, sizeof(bliss_respond_answer) == 16 && offsetof(bliss_respond_answer, bit) == 4 &&
+                                 offsetof(bliss_respond_answer, entries) == 8);
+
+typedef struct {
+    bliss_respond_answer answer;
+    bliss_session session;
+} bliss_responded;
+BLISS_LAYOUT(responded, sizeof(bliss_responded) == 32 && offsetof(bliss_responded, session) == 16);
 
 /* Turns the noise y, a key and a challenge into a response z, or into a rejection.
  * Needs:   y, z and list writable, and apart from each other and from the rest: z must not overlap y. The key is s1 and then s2,
@@ -200,48 +285,9 @@ bliss_responded bliss_respond(bliss_session session,                            
                               int32_t *z, size_t z_length,                          //
                               uint32_t *list, size_t list_length);
 
-/* The length of the filled part of a list, for the count of entries of an answer. The part starts where the list starts.
- * Gives: the count; 0 where it is over the list's length. */
-BLISS_MUST_USE BLISS_NONNULL
-size_t bliss_filled(const uint32_t *list, size_t list_length, size_t count);
-
-/* Tests against faults. The calls are proved as they are written; a source of words that fails unnoticed, a machine that skips an
- * instruction and a host that hands on the wrong buffer are outside of the proof. A host makes these tests after the calls that
- * they name. Where one finds a fault, the host neither uses the noise nor publishes the response. */
-
-/* Whether the noise is all zero, after a draw that is full. A response would then be the product of key and challenge alone, and
- * some of those give the key away. All values are joined before the one test, so that no jump depends on a single value. */
-BLISS_MUST_USE BLISS_NONNULL
-static inline bool bliss_noise_is_zero(const int32_t *y, size_t y_length)
-{
-    int32_t joined = 0;
-
-    for (size_t i = 0; i < y_length; i++)
-        joined |= y[i];
-    return joined == 0;
-}
-
-/* Whether an entry has this kind and this place. */
-BLISS_MUST_USE
-static inline bool bliss_entry_is(uint32_t entry, uint32_t kind, size_t place)
-{
-    return BLISS_ENTRY_KIND(entry) == kind && BLISS_ENTRY_PLACE(entry) == place;
-}
-
-/* Whether the list of a draw at degree n fits its answer: in the number of its entries, and in the first and the last of them.
- * Gives: false where the draw is refused. Nothing behind the list's length is read, whatever the answer says. */
-BLISS_MUST_USE BLISS_NONNULL
-static inline bool bliss_draw_fits(bliss_draw_answer answer, size_t n, const uint32_t *list, size_t list_length)
-{
-    size_t filled = bliss_filled(list, list_length, answer.entries);
-
-    /* There are fewer attempts than entries; of more, the number of entries could be above 2^64, and cut off. */
-    return answer.attempts < filled && filled == BLISS_DRAW_ENTRIES(answer.attempts) &&
-           bliss_entry_is(list[0], BLISS_KIND_DRAW, n) &&
-           bliss_entry_is(list[filled - 1], BLISS_KIND_ACCEPTED, answer.accepted);
-}
-
-/* The same for a response at degree n to a challenge of so many positions. */
+/* Whether the list of a response at degree n to a challenge of so many positions fits its answer: in the number of its entries,
+ * and in the first and the last of them.
+ * Gives: false where the response is refused. Nothing behind the list's length is read, whatever the answer says. */
 BLISS_MUST_USE BLISS_NONNULL
 static inline bool bliss_respond_fits(bliss_respond_answer answer, size_t n, size_t positions, const uint32_t *list,
                                       size_t list_length)
@@ -252,6 +298,8 @@ static inline bool bliss_respond_fits(bliss_respond_answer answer, size_t n, siz
            bliss_entry_is(list[0], BLISS_KIND_RESPONSE, n) &&
            bliss_entry_is(list[filled - 1], BLISS_KIND_BIT, answer.bit);
 }
+
+/* ==== Exponential ========================================================================================================= */
 
 /* The largest n that bliss_exponential serves. */
 #define BLISS_EXPONENTIAL_LIMIT UINT64_C(5534960)
@@ -267,35 +315,9 @@ static inline bool bliss_respond_fits(bliss_respond_answer answer, size_t n, siz
 BLISS_MUST_USE
 uint64_t bliss_exponential(uint64_t n);
 
-/* The polynomial table: entry j is the whole part of 2^62 / j!. */
-#define BLISS_POLYNOMIAL                                                                                                  \
-    {                                                                                                                     \
-        UINT64_C(4611686018427387904), UINT64_C(4611686018427387904), UINT64_C(2305843009213693952),                      \
-            UINT64_C(768614336404564650), UINT64_C(192153584101141162), UINT64_C(38430716820228232),                      \
-            UINT64_C(6405119470038038), UINT64_C(915017067148291), UINT64_C(114377133393536), UINT64_C(12708570377059),   \
-            UINT64_C(1270857037705), UINT64_C(115532457973), UINT64_C(9627704831), UINT64_C(740592679),                   \
-            UINT64_C(52899477), UINT64_C(3526631), UINT64_C(220414), UINT64_C(12965), UINT64_C(720), UINT64_C(37),        \
-            UINT64_C(1)                                                                                                   \
-    }
-
-/* The CDT table for deviation 215: ten thresholds, each a high word and a low word. Threshold i is the nearest whole number to
- * 2^124 times the chance that the base sample is below i, where j has the weight exp(-65536 j^2 / 92450), j = 0 to 10. */
-#define BLISS_CDT_215                                                             \
-    {                                                                             \
-        UINT64_C(2970318119077987601), UINT64_C(139537425007862173),              \
-            UINT64_C(4432293587828485953), UINT64_C(2218333992557025118),         \
-            UINT64_C(4606615286148199816), UINT64_C(2870311867292663647),         \
-            UINT64_C(4611650721831976652), UINT64_C(3044458817194566665),         \
-            UINT64_C(4611685958667561403), UINT64_C(456626370962175178),          \
-            UINT64_C(4611686018402853103), UINT64_C(3423392530604428891),         \
-            UINT64_C(4611686018427385463), UINT64_C(918063073876867824),          \
-            UINT64_C(4611686018427387903), UINT64_C(4340391528176902920),         \
-            UINT64_C(4611686018427387903), UINT64_C(4611684434372927295),         \
-            UINT64_C(4611686018427387903), UINT64_C(4611686018425147250)          \
-    }
-
 #undef BLISS_MUST_USE
 #undef BLISS_NONNULL
+#undef BLISS_LAYOUT
 
 #ifdef __cplusplus
 }

@@ -2,7 +2,7 @@
 
 usage: reads.py same|different BINARY NAME
 
-The loads of a call must be its entries of kinds 2, 3, 4 and 8, in the order of its list, one load for each. Loads from words
+The loads of a call must be its entries of words, tables and key, in the order of its list, one load for each. Loads from words
 count from the call's first instruction on, and those from tables and key from the first store to the list on: the checks before
 it read these, and are not listed. `same` succeeds where this holds for each call that the program makes, and `different` where
 it holds for none: that shows that the comparison finds a call that reads otherwise.
@@ -59,9 +59,13 @@ def calls_in(trace):
     return calls, {kind for kind, *_ in lent}
 
 
+def kind_and_place(entry):
+    return divmod(entry, 2**24)
+
+
 def difference(loads, entries):
     """Where the loads of a call and its entries of reads first differ, or None."""
-    listed = [(entry >> 24, entry % 2**24) for entry in entries if entry >> 24 in READS]
+    listed = [(kind, place) for kind, place in map(kind_and_place, entries) if kind in READS]
     for i, (load, read) in enumerate(itertools.zip_longest(loads, listed, fillvalue="none")):
         if load != read:
             return f"load {i} is {load}, and the entry {read}"
