@@ -1,12 +1,12 @@
 //! Files that a command writes.
 
-use std::ffi::OsStr;
 use std::fs::{self, File, OpenOptions};
 use std::io::{self, ErrorKind, Write};
 use std::os::unix::fs::OpenOptionsExt;
 use std::path::{Path, PathBuf};
 use std::process;
 
+use super::OutputPath;
 use crate::ending::Failure;
 
 /// A file that is written beside the one of its name, and replaces it once it is whole. A command that fails leaves the older file
@@ -24,9 +24,9 @@ struct Beside {
 }
 
 impl OutputFile {
-    pub fn create(path: &OsStr) -> Result<OutputFile, Failure> {
-        let name = path.to_string_lossy().into_owned();
-        let (file, beside) = open(Path::new(path)).map_err(|error| unwritable(&name, error))?;
+    pub fn create(path: &OutputPath) -> Result<OutputFile, Failure> {
+        let name = path.shown().into_owned();
+        let (file, beside) = open(path.as_ref()).map_err(|error| unwritable(&name, error))?;
         Ok(OutputFile { name, file, beside })
     }
 
