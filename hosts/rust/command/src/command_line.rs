@@ -2,17 +2,14 @@
 
 use std::any::Any;
 use std::env;
-use std::ffi::OsStr;
-use std::marker::PhantomData;
 
-use clap::builder::TypedValueParser;
 use clap::error::ErrorKind;
-use clap::{Arg, ArgMatches, CommandFactory, FromArgMatches};
+use clap::{ArgMatches, CommandFactory, FromArgMatches};
 
+use crate::arguments::name;
 use crate::commands::Command;
 use crate::ending::Failure;
 use crate::files::{same_file, InputPath, OutputPath};
-use crate::numbers::{shown, whole, Whole};
 use crate::output;
 use crate::program::Program;
 
@@ -35,8 +32,8 @@ pub fn read() -> Result<Option<Command>, Failure> {
 
 /// Looks at the files of a command line. Standard input can be read once, and no file is both read and written.
 fn check_files(program: &mut clap::Command, matches: &ArgMatches) -> Result<(), Failure> {
-    let (name, matches) = matches.subcommand().expect("a command line without a command is an error");
-    let command = program.find_subcommand_mut(name).expect("another command is an error");
+    let (command, matches) = matches.subcommand().expect("a command line without a command is an error");
+    let command = program.find_subcommand_mut(command).expect("another command is an error");
     let inputs = given::<InputPath>(command, matches);
     if inputs.iter().filter(|(_, path)| path.is_standard()).count() > 1 {
         return Err(command.error(ErrorKind::ArgumentConflict, "standard input can be one file alone").into());
@@ -53,35 +50,6 @@ fn given<'a, T: Any + Clone + Send + Sync>(command: &clap::Command, matches: &'a
         given.extend(values.into_iter().flatten().map(|value| (name(argument), value)));
     }
     given
-}
-
-/// The name of an argument in a message: that of an option, or of the value where it stands alone.
-fn name(argument: &Arg) -> String {
-    match (argument.get_long(), argument.get_value_names()) {
-        (Some(option), _) => format!("--{option}"),
-        (None, Some([value, ..])) => value.to_string(),
-        (None, _) => argument.get_id().to_string(),
-    }
-}
-
-/// Reads whole numbers on a command line.
-#[derive(Clone)]
-pub struct WholeNumber<T>(PhantomData<T>);
-
-impl<T> WholeNumber<T> {
-    pub fn new() -> WholeNumber<T> {
-        WholeNumber(PhantomData)
-    }
-}
-
-impl<T: Whole + Send + Sync + 'static> TypedValueParser for WholeNumber<T> {
-    type Value = T;
-
-    fn parse_ref(&self, _: &clap::Command, argument: Option<&Arg>, value: &OsStr) -> Result<T, clap::Error> {
-        let (text, place) = (value.to_string_lossy(), argument.map(name).unwrap_or_default());
-        let bad = |problem: String| clap::Error::raw(ErrorKind::ValueValidation, format!("{place}: {problem}"));
-        whole(&text).map_err(|problem| bad(problem.of(&shown(&text))))
-    }
 }
 
 impl From<clap::Error> for Failure {

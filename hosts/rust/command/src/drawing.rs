@@ -3,7 +3,7 @@
 use bliss_box::{draw_limit, draw_word_count, CallError, Counts, OwnedDraw, Refusal, Session, CDT, POLYNOMIAL};
 use clap::{Args, ValueHint};
 
-use crate::command_line::WholeNumber;
+use crate::arguments::whole_number;
 use crate::ending::Failure;
 use crate::files::{InputPath, NumberFile, OutputPath, Table};
 use crate::output::{self, Lists};
@@ -18,7 +18,7 @@ const USED_TWICE: &str = "words used twice make the same noise twice, and two re
 pub struct Degree {
     /// The degree: a power of two from 4 to 1024
     #[arg(long, value_name = "N", default_value_t = 512)]
-    #[arg(value_parser = WholeNumber::<usize>::new(), allow_negative_numbers = true)]
+    #[arg(value_parser = whole_number::<usize>(), allow_negative_numbers = true)]
     degree: usize,
 }
 
@@ -38,7 +38,7 @@ pub struct DrawOptions {
     ///
     /// With the built-in CDT, 4N + 56 attempts are all spent with a chance of at most 2^-64.
     #[arg(long, value_name = "L")]
-    #[arg(value_parser = WholeNumber::<usize>::new(), allow_negative_numbers = true)]
+    #[arg(value_parser = whole_number::<usize>(), allow_negative_numbers = true)]
     limit: Option<usize>,
 
     /// The CDT [default: the built-in one, for deviation 215]
@@ -56,8 +56,8 @@ pub struct DrawOptions {
 
     /// Writes the read list there, one entry a line
     ///
-    /// The list is that of all calls that are made, one after another. - writes it to standard output, call by call, in place of
-    /// what would be printed there.
+    /// The list is that of all calls that are made, one after another. - writes it to standard output, in place of what would be
+    /// printed there.
     #[arg(long, value_name = "FILE", value_hint = ValueHint::FilePath)]
     list: Option<OutputPath>,
 }

@@ -31,10 +31,10 @@ static BEFORE_THE_RUNTIME: extern "C" fn() = look_at_standard_output;
 
 /// Looks whether there is a standard output at all.
 pub fn check() -> Result<(), Failure> {
-    match CLOSED.load(Ordering::Relaxed) {
-        true => Err(Failure::at("standard output", "it is closed")),
-        false => Ok(()),
+    if CLOSED.load(Ordering::Relaxed) {
+        return Err(Failure::at("standard output", "it is closed"));
     }
+    Ok(())
 }
 
 /// Says a text on standard error. What a terminal would act on is escaped, since a text may quote the command line or a file's
@@ -42,9 +42,10 @@ pub fn check() -> Result<(), Failure> {
 pub fn say(text: &str) {
     let mut said = String::new();
     for character in text.chars() {
-        match character.is_control() && character != '\n' {
-            true => said.extend(character.escape_default()),
-            false => said.push(character),
+        if character.is_control() && character != '\n' {
+            said.extend(character.escape_default());
+        } else {
+            said.push(character);
         }
     }
     let _ = writeln!(io::stderr(), "{said}");

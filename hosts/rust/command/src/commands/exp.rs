@@ -3,7 +3,7 @@
 use bliss_box::exponential;
 use clap::Args;
 
-use crate::command_line::WholeNumber;
+use crate::arguments::whole_number;
 use crate::ending::{Failure, Status};
 use crate::output;
 
@@ -15,7 +15,7 @@ use crate::output;
 pub struct Exp {
     /// Whole numbers from 0 to 5534960
     #[arg(value_name = "N", required = true)]
-    #[arg(value_parser = WholeNumber::<u64>::new(), allow_negative_numbers = true)]
+    #[arg(value_parser = whole_number::<u64>(), allow_negative_numbers = true)]
     numbers: Vec<u64>,
 }
 

@@ -3,7 +3,7 @@
 use bliss_box::{challenge_limit, sample_count, CallError, OwnedDraw, Refusal, Secret, Session, POLYNOMIAL, RESPOND_WORDS};
 use clap::{Args, ValueHint};
 
-use crate::command_line::WholeNumber;
+use crate::arguments::whole_number;
 use crate::drawing::{self, DrawOptions, Drawing};
 use crate::ending::{Failure, Status};
 use crate::files::{InputPath, NumberFile, Table};
@@ -37,7 +37,7 @@ pub struct Respond {
     ///
     /// 64 tries all fail with a chance below 2^-64, unless the product of key and challenge is too long to be accepted at all.
     #[arg(long, value_name = "T", default_value_t = TRIES)]
-    #[arg(value_parser = WholeNumber::<usize>::new(), allow_negative_numbers = true)]
+    #[arg(value_parser = whole_number::<usize>(), allow_negative_numbers = true)]
     tries: usize,
 
     #[command(flatten)]

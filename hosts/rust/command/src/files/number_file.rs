@@ -53,7 +53,7 @@ impl NumberFile {
         } else {
             File::open(path)
         };
-        let file = file.map_err(|error| unreadable(&name, error))?;
+        let file = file.map_err(|error| unreadable(&name, &error))?;
         let (chunk, line) = (Secret::zeroed(1 << 16), Secret::zeroed(LONGEST_LINE));
         Ok(NumberFile { name, is_secret, file, chunk, next: 0, end: 0, line, line_number: 0 })
     }
@@ -104,7 +104,7 @@ impl NumberFile {
                 Ok(0) => return Ok(None),
                 Ok(count) => (self.next, self.end) = (0, count),
                 Err(error) if error.kind() == ErrorKind::Interrupted => {}
-                Err(error) => return Err(unreadable(&self.name, error)),
+                Err(error) => return Err(unreadable(&self.name, &error)),
             }
         }
         self.next += 1;
@@ -112,7 +112,7 @@ impl NumberFile {
     }
 }
 
-fn unreadable(name: &str, error: io::Error) -> Failure {
+fn unreadable(name: &str, error: &io::Error) -> Failure {
     Failure::at(name, format!("cannot be read: {error}"))
 }
 

@@ -38,10 +38,10 @@ impl RegularFile {
     }
 
     fn written((argument, path): &(String, &OutputPath)) -> Option<RegularFile> {
-        match path.is_standard() {
-            true => None,
-            false => RegularFile::of(format_args!("{argument} {}", path.shown()), fs::metadata(path)),
+        if path.is_standard() {
+            return None;
         }
+        RegularFile::of(format_args!("{argument} {}", path.shown()), fs::metadata(path))
     }
 
     fn standard_output() -> Option<RegularFile> {

@@ -59,12 +59,11 @@ fn explain(entries: &mut Entries, mut print: impl FnMut(String) -> Result<(), Fa
         }
         let first = beginning(entries, degree, may_respond)?;
         degree = Some(first.place());
-        may_respond = match first.kind() {
-            Some(Kind::Draw) => draw::explain(entries, first.place())?,
-            _ => {
-                response::explain(entries, first.place())?;
-                false
-            }
+        may_respond = if first.kind() == Some(Kind::Draw) {
+            draw::explain(entries, first.place())?
+        } else {
+            response::explain(entries, first.place())?;
+            false
         };
         print(entries.take_text())?;
     }
