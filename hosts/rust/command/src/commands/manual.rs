@@ -80,14 +80,20 @@ fn put_argument(page: &mut Roff, argument: &Arg) {
     put_item(page, tag(argument), &format!("{first}{}\n\n{rest}", values(argument)));
 }
 
-/// An argument as it stands on a command line.
+/// An argument as it stands on a command line. An option has a long name, and may have a short one before it.
 fn tag(argument: &Arg) -> Vec<Inline> {
-    let short = argument.get_short().map(|short| bold(format!("-{short}")));
-    let long = argument.get_long().map(|long| bold(format!("--{long}")));
-    let separator = short.iter().zip(&long).map(|_| roman(", ")).next();
-    let names = argument.get_value_names().unwrap_or_default().iter();
-    let values = names.flat_map(|name| [roman(" "), italic(name.as_str())]).skip(usize::from(argument.is_positional()));
-    short.into_iter().chain(separator).chain(long).chain(values).collect()
+    let mut tag = Vec::new();
+    if let Some(short) = argument.get_short() {
+        tag.extend([bold(format!("-{short}")), roman(", ")]);
+    }
+    if let Some(long) = argument.get_long() {
+        tag.push(bold(format!("--{long}")));
+    }
+    for value in argument.get_value_names().unwrap_or_default() {
+        let before = if argument.is_positional() { "" } else { " " };
+        tag.extend([roman(before), italic(value.as_str())]);
+    }
+    tag
 }
 
 /// The default and the possible values of an argument, in the form in which the help has them.
