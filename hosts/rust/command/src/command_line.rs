@@ -16,7 +16,7 @@ use crate::program::Program;
 /// The longest line of a help text.
 const COLUMNS: usize = 100;
 
-/// The command that is asked for. There is none where help or version are asked for, which are printed.
+/// The command that is asked for. There is none where it is help or the version, which is printed.
 pub fn read() -> Result<Option<Command>, Failure> {
     let mut program = Program::command();
     let matches = match program.try_get_matches_from_mut(env::args_os()) {

@@ -26,17 +26,17 @@ pub const SEE_FILES: &str = "bliss-box --help says what files hold, and what eac
 
 /// What files hold, and how they are written.
 pub const FILES: [&str; 2] = [
-    "Files hold whole numbers in decimal, one a line. Blank lines and lines that start with # are skipped, so that a table may say \
-     what it is. A value with a comma or a point in it is refused. A file named - is standard input. No message shows a value of a \
-     key or a word.",
-    "A file that is written must be none of those that are read. It is put in its place once it is whole, and only its owner may \
-     read it.",
+    "Files hold whole numbers in decimal, one a line. Blank lines and lines that start with # are skipped, so that a table may \
+     say what it is. A value with a comma or a point in it is refused. A file named - is standard input. No message shows a \
+     value of a key or a word.",
+    "A file that is written must be none of those that are read. It is put in its place once it is whole, and only its owner \
+     may read it.",
 ];
 
 /// What is printed where the status is not 0.
 pub const PRINTED: &str = "\
-What is refused, bad or wrong prints nothing to standard output. But list prints call by call, and respond --list - try by try, \
-and what they have printed before stays.";
+What is refused, bad or wrong prints nothing to standard output. But list prints call by call, and respond --list - try by \
+try, and what they have printed before stays.";
 
 fn after_help() -> String {
     let mut text = String::from("bliss-box COMMAND --help says more of a command.\n\nFiles:\n");
