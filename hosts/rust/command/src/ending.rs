@@ -7,14 +7,24 @@ use bliss_box::{CallError, Refusal};
 /// The exit status of the program.
 #[derive(Clone, Copy)]
 pub enum Status {
-    /// What was asked for is done: a draw is full, a response is accepted.
     Served = 0,
-    /// The box refused, a file or a value is bad, or the output could not be written.
     Refused = 1,
-    /// The command line is wrong.
     Usage = 2,
-    /// A draw is spent, or every try of a response was rejected.
     Unserved = 3,
+}
+
+impl Status {
+    pub const ALL: [Status; 4] = [Status::Served, Status::Refused, Status::Usage, Status::Unserved];
+
+    /// What the help and the manual page say of it.
+    pub fn meaning(self) -> &'static str {
+        match self {
+            Status::Served => "served: the draw is full, the response is accepted",
+            Status::Refused => "the box refused, a file or a value is bad, or the output could not be written",
+            Status::Usage => "the command line is wrong",
+            Status::Unserved => "the draw is spent, or every try of a response was rejected",
+        }
+    }
 }
 
 /// Why a command could not do what was asked.
@@ -32,11 +42,6 @@ impl Failure {
     /// A failure at a place: a file, a line of it, an option or a value.
     pub fn at(place: impl fmt::Display, problem: impl fmt::Display) -> Failure {
         Failure::Refused(format!("{place}: {problem}"))
-    }
-
-    /// A wrong command line of a command, whose help says what is right.
-    pub fn usage(command: &str, problem: impl fmt::Display) -> Failure {
-        Failure::Usage(format!("{problem}; see {command} --help"))
     }
 
     pub fn status(&self) -> Status {

@@ -8,9 +8,8 @@ use std::sync::atomic::{AtomicBool, Ordering};
 
 use bliss_box::Secret;
 
-use crate::arguments::{Arguments, STANDARD};
 use crate::ending::Failure;
-use crate::output_file::OutputFile;
+use crate::files::{OutputFile, OutputPath};
 
 /// The longest line of a 32-bit number: a sign, ten digits and the line's end.
 const LONGEST_LINE: usize = 12;
@@ -21,12 +20,8 @@ static CLOSED: AtomicBool = AtomicBool::new(false);
 /// Before `main`, Rust's runtime opens /dev/null in the place of a standard output that is closed, and what is printed would be
 /// lost without an error. So this is called before the runtime.
 extern "C" fn look_at_standard_output() {
-    extern "C" {
-        fn fcntl(descriptor: i32, command: i32, ...) -> i32;
-    }
-    const F_GETFD: i32 = 1;
     // SAFETY: the command takes no further argument, and any number as a descriptor.
-    let flags = unsafe { fcntl(1, F_GETFD) };
+    let flags = unsafe { libc::fcntl(libc::STDOUT_FILENO, libc::F_GETFD) };
     CLOSED.store(flags == -1, Ordering::Relaxed);
 }
 
@@ -36,15 +31,24 @@ static BEFORE_THE_RUNTIME: extern "C" fn() = look_at_standard_output;
 
 /// Looks whether there is a standard output at all.
 pub fn check() -> Result<(), Failure> {
-    match CLOSED.load(Ordering::Relaxed) {
-        true => Err(Failure::at("standard output", "it is closed")),
-        false => Ok(()),
+    if CLOSED.load(Ordering::Relaxed) {
+        return Err(Failure::at("standard output", "it is closed"));
     }
+    Ok(())
 }
 
-/// Says a line on standard error. Nobody is left to be told where that fails.
-pub fn say(line: &str) {
-    let _ = writeln!(io::stderr(), "{line}");
+/// Says a text on standard error. What a terminal would act on is escaped, since a text may quote the command line or a file's
+/// name. Nobody is left to be told where it fails.
+pub fn say(text: &str) {
+    let mut said = String::new();
+    for character in text.chars() {
+        if character.is_control() && character != '\n' {
+            said.extend(character.escape_default());
+        } else {
+            said.push(character);
+        }
+    }
+    let _ = writeln!(io::stderr(), "{said}");
 }
 
 /// Prints text to standard output.
@@ -66,10 +70,10 @@ pub enum Lists {
 }
 
 impl Lists {
-    pub fn of(arguments: &Arguments) -> Result<Lists, Failure> {
-        Ok(match arguments.value("--list") {
+    pub fn of(path: Option<&OutputPath>) -> Result<Lists, Failure> {
+        Ok(match path {
             None => Lists::Nowhere,
-            Some(path) if path == STANDARD => Lists::Standard,
+            Some(path) if path.is_standard() => Lists::Standard,
             Some(path) => Lists::File(OutputFile::create(path)?),
         })
     }

@@ -1,11 +1,9 @@
 //! Where random words come from. Either way no word is handed out twice.
 
-use std::ffi::OsStr;
-
 use bliss_box::Secret;
 
 use crate::ending::Failure;
-use crate::files::NumberFile;
+use crate::files::{InputPath, NumberFile};
 
 /// A source of random words.
 pub enum Words {
@@ -16,7 +14,7 @@ pub enum Words {
 }
 
 impl Words {
-    pub fn of(path: Option<&OsStr>) -> Result<Words, Failure> {
+    pub fn of(path: Option<&InputPath>) -> Result<Words, Failure> {
         Ok(match path {
             None => Words::System,
             Some(path) => Words::File(NumberFile::secret(path)?),

@@ -1,73 +1,148 @@
-//! Help, options and wrong command lines.
+//! Help, version, options and wrong command lines.
 
 use super::*;
 
-const COMMANDS: [&str; 5] = ["draw", "respond", "exp", "list", "demo"];
+/// What the help says first, of all commands or of one, in its three forms: short, long and by the command help.
+fn helps(command: &[&str]) -> [String; 3] {
+    [[command, &["-h"]], [command, &["--help"]], [&["help"], command]].map(|arguments| {
+        let help = printed(&arguments.concat());
+        assert!(help.lines().all(|line| line.chars().count() <= 100 && !line.ends_with(' ')), "{help}");
+        help
+    })
+}
 
 #[test]
-fn help_and_version_are_printed() {
-    let help = printed(&["--help"]);
-    assert!(help.contains("Exit status:\n    0  served"));
-    assert!(help.lines().all(|line| line.len() <= 100));
-    for command in COMMANDS {
-        assert!(help.contains(&format!("\n    bliss-box {command}")));
-        let help = printed(&[command, "--help"]);
-        assert!(help.starts_with(&format!("bliss-box {command} ")));
-        assert!(help.lines().all(|line| line.len() <= 100), "{command}");
-        assert_eq!(printed(&[command, "--surplus", "--help"]), help);
+fn help_is_printed() {
+    let [short, long, by_command] = helps(&[]);
+    assert!(short.starts_with("The BLISS-I sampling box from the command line\n"));
+    assert!(short.contains("\nExit status:\n  0  served"));
+    assert_eq!([&short, &short], [&long, &by_command]);
+    assert!(commands().starts_with(&["draw", "respond", "exp", "list", "demo", "completions", "manual"].map(String::from)));
+}
+
+#[test]
+fn each_command_has_help() {
+    for command in commands() {
+        let [short, long, by_command] = helps(&[&command]);
+        assert!(short.contains(&format!("\nUsage: bliss-box {command}")), "{short}");
+        assert!(long.contains(&format!("\nUsage: bliss-box {command}")), "{long}");
+        assert!(short.len() < long.len() && long == by_command, "{by_command}");
     }
-    assert_eq!(printed(&["--version"]), concat!("bliss-box ", env!("CARGO_PKG_VERSION"), "\n"));
+    let [_, draw, _] = helps(&["draw"]);
+    for text in ["[default: 512]", "[default: 4N + 56]", "built-in", "give the key away", "in place of", "status 3"] {
+        assert!(draw.contains(text), "{text}");
+    }
 }
 
 #[test]
 fn each_option_is_in_the_help() {
-    let options = ["--degree", "--limit", "--cdt", "--words", "--list"];
-    for (command, options) in [("draw", &options[..]), ("respond", &["--key", "--challenge", "--tries"]), ("respond", &options)]
-    {
-        let help = printed(&[command, "--help"]);
-        for option in options {
-            assert!(help.contains(&format!("\n    {option} ")), "{command} {option}");
-            fails(&[command, option], 2, &format!("the option {option} needs a value; see bliss-box {command} --help"));
+    let drawing = ["--degree", "--limit", "--cdt", "--words", "--list"];
+    assert_eq!(options("draw"), drawing);
+    assert_eq!(options("respond"), [&["--key", "--challenge", "--tries"], &drawing[..]].concat());
+    assert_eq!(options("demo"), ["--degree"]);
+    for command in commands() {
+        for option in options(&command) {
+            wrong(&[&command, &option], &format!("The argument '{option} <"), "requires a value but none was supplied");
         }
     }
+}
+
+#[test]
+fn the_version_is_printed() {
+    let version = concat!("bliss-box ", env!("CARGO_PKG_VERSION"), "\n");
+    assert_eq!(printed(&["-V"]), version);
+    let origin = printed(&["--version"]);
+    let lines: Vec<&str> = origin.strip_prefix(version).unwrap().lines().collect();
+    assert_eq!(lines.len(), 2);
+    for (line, name) in lines.iter().zip(["commit ", "kit "]) {
+        assert!(line.strip_prefix(name).is_some_and(|said| !said.trim().is_empty()), "{origin}");
+    }
+}
+
+#[test]
+fn values_stand_after_their_option_or_in_it() {
+    let words = file("forms-words", lines(&words_with("11111111")));
+    let draw = |arguments: &[&str]| {
+        let ran = run(&[&["draw"], arguments].concat());
+        assert_eq!((ran.status, ran.out), (0, "1\n".repeat(8)), "{arguments:?}: {}", ran.err);
+    };
+    draw(&["--degree", "4", "--limit", "8", "--words", &words]);
+    draw(&["--degree=4", "--limit=8", &format!("--words={words}")]);
+    assert_eq!(printed(&["exp", "--", "0"]), printed(&["exp", "0"]));
+    // What begins with a minus sign is a file where it can be nothing else.
+    fails(&["list", "--", "--help"], 1, "--help: cannot be read: No such file or directory (os error 2)");
+    fails(&["draw", "--cdt=-c"], 1, "-c: cannot be read: No such file or directory (os error 2)");
 }
 
 #[test]
 fn bad_values_of_options_are_said() {
     let whole = "tables hold whole numbers, with neither comma nor point";
     fails(&["draw", "--degree", "51,2"], 1, &format!("--degree: \"51,2\" has a comma in it: {whole}"));
-    fails(&["draw", "--limit", "1.780"], 1, &format!("--limit: \"1.780\" has a point in it: {whole}"));
+    fails(&["draw", "--limit=1.780"], 1, &format!("--limit: \"1.780\" has a point in it: {whole}"));
     fails(&["draw", "--degree", "all"], 1, "--degree: \"all\" is not a whole number in decimal");
     fails(&["draw", "--degree", "-4"], 1, "--degree: \"-4\" has a minus sign, and no value here is negative");
+    fails(&["draw", "--limit", "-4"], 1, "--limit: \"-4\" has a minus sign, and no value here is negative");
     fails(&["demo", "--degree", ""], 1, "--degree: \"\" is not a whole number in decimal");
     let [key, challenge] = key_and_challenge("no-tries");
-    fails(
-        &["respond", "--key", &key, "--challenge", &challenge, "--tries", "0"],
-        1,
-        "--tries 0: without a try there is no response",
-    );
+    let respond = |tries: &str, problem: &str| {
+        fails(&["respond", "--key", &key, "--challenge", &challenge, "--tries", tries], 1, problem);
+    };
+    respond("0", "--tries 0: without a try there is no response");
+    respond("-1", "--tries: \"-1\" has a minus sign, and no value here is negative");
+}
+
+#[test]
+fn a_terminal_does_not_act_on_what_is_said() {
+    fails(&["draw", "--degree", "\u{1b}[2J"], 1, "--degree: \"\\u{1b}[2J\" is not a whole number in decimal");
+    fails(&["list", "\u{1b}[2J"], 1, "\\u{1b}[2J: cannot be read: No such file or directory (os error 2)");
+    wrong(&["\u{1b}[2J"], "The subcommand '\\u{1b}[2J'", "wasn't recognized");
+    wrong(&["draw", "--\u{9b}2J"], "Found argument '--\\u{9b}2J'", "which wasn't expected");
+}
+
+/// A wrong command line: these parts of a sentence are said of it, and where there is more to read.
+fn wrong(arguments: &[&str], start: &str, end: &str) {
+    let ran = run(arguments);
+    assert_eq!((ran.status, ran.out.as_str()), (2, ""), "{arguments:?}");
+    let first = ran.err.strip_prefix("bliss-box: ").unwrap().split("\n\n").next().unwrap();
+    assert!(first.starts_with(start) && first.contains(end), "{arguments:?}: {}", ran.err);
+    assert!(ran.err.ends_with("\n\nFor more information try '--help'\n"), "{arguments:?}: {}", ran.err);
 }
 
 #[test]
 fn wrong_command_lines_are_explained() {
-    let wrong = |arguments: &[&str], command: &str, problem: &str| {
-        fails(arguments, 2, &format!("{problem}; see {command} --help"));
-    };
-    wrong(&[], "bliss-box", "a command is missing");
-    wrong(&["sign"], "bliss-box", "there is no command \"sign\"");
-    wrong(&["--degree", "4"], "bliss-box", "there is no command \"--degree\"");
-    wrong(&["draw", "--tries", "4"], "bliss-box draw", "there is no option \"--tries\"");
-    wrong(&["draw", "--degree=4"], "bliss-box draw", "there is no option \"--degree=4\"");
-    wrong(&["draw", "--degree"], "bliss-box draw", "the option --degree needs a value");
-    wrong(&["draw", "--degree", "--limit", "8"], "bliss-box draw", "the option --degree needs a value");
-    wrong(&["draw", "--degree", "4", "--degree", "4"], "bliss-box draw", "the option --degree is given twice");
-    wrong(&["draw", "4"], "bliss-box draw", "\"4\" is one argument too many");
-    wrong(&["draw", "-n"], "bliss-box draw", "\"-n\" is one argument too many");
-    wrong(&["draw", "--cdt", "-", "--words", "-"], "bliss-box draw", "standard input can be one file alone");
-    wrong(&["respond", "--key", "k"], "bliss-box respond", "the option --challenge is missing");
-    wrong(&["respond", "--degree", "12", "--challenge", "c"], "bliss-box respond", "the option --key is missing");
-    wrong(&["exp"], "bliss-box exp", "N is missing");
-    wrong(&["list"], "bliss-box list", "FILE is missing");
-    wrong(&["list", "a", "b"], "bliss-box list", "\"b\" is one argument too many");
-    wrong(&["demo", "--limit", "4"], "bliss-box demo", "there is no option \"--limit\"");
+    wrong(&[], "'bliss-box' requires a subcommand", "[subcommands: draw, respond, ");
+    wrong(&["sign"], "The subcommand 'sign'", "wasn't recognized");
+    for (arguments, unexpected) in [
+        (&["--degree", "4"][..], "--degree"),
+        (&["draw", "--tries", "4"], "--tries"),
+        (&["draw", "--surplus", "--help"], "--surplus"),
+        (&["draw", "--deg", "4"], "--deg"),
+        (&["draw", "4"], "4"),
+        (&["draw", "-n"], "-n"),
+        (&["draw", "--", "--degree"], "--degree"),
+        (&["draw", "--list", "-l"], "-l"),
+        (&["list", "a", "b"], "b"),
+        (&["demo", "--limit", "4"], "--limit"),
+    ] {
+        wrong(arguments, &format!("Found argument '{unexpected}'"), "which wasn't expected");
+    }
+    wrong(&["draw", "--degree", "--limit", "8"], "The argument '--degree <N>'", "requires a value but none was supplied");
+    wrong(&["draw", "--degree", "4", "--degree=4"], "The argument '--degree <N>'", "was provided more than once");
+    wrong(&["draw", "--cdt", "-", "--words", "-"], "standard input can be one file alone", "");
+    let missing = "The following required arguments were not provided:\n";
+    wrong(&["respond", "--key", "k"], missing, "\n  --challenge <FILE>");
+    wrong(&["respond", "--degree", "12", "--challenge", "c"], missing, "\n  --key <FILE>");
+    wrong(&["exp"], missing, "\n  <N>...");
+    wrong(&["list"], missing, "\n  <FILE>");
+}
+
+#[test]
+fn similar_names_are_suggested() {
+    for (arguments, name) in
+        [(&["drow"][..], "draw"), (&["draw", "--degre", "4"], "--degree"), (&["draw", "--lim=4"], "--limit")]
+    {
+        let ran = run(arguments);
+        assert_eq!((ran.status, ran.out.as_str()), (2, ""), "{arguments:?}");
+        assert!(ran.err.contains(&format!("\n\n  Did you mean '{name}'?\n\n")), "{}", ran.err);
+    }
 }

@@ -7,7 +7,7 @@ use super::*;
 /// Command lines that read a file, each up to the file's name.
 fn reading(name: &str) -> [Vec<String>; 5] {
     let [key, challenge] = key_and_challenge(name);
-    let run = |arguments: &[&str]| arguments.iter().map(|argument| argument.to_string()).collect();
+    let run = |arguments: &[&str]| arguments.iter().copied().map(String::from).collect();
     [
         run(&["draw", "--degree", "4", "--cdt"]),
         run(&["respond", "--degree", "4", "--key", &key, "--challenge"]),

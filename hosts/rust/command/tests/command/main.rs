@@ -1,11 +1,13 @@
 //! The program bliss-box, run on good and bad input: what it prints, what it says, and its exit status.
 
 mod arguments;
+mod completions;
 mod demo;
 mod draw;
 mod exp;
 mod files;
 mod list;
+mod manual;
 mod output;
 // The other tests use all of it.
 #[allow(dead_code)]
@@ -75,6 +77,25 @@ fn printed(arguments: &[&str]) -> String {
     let ran = run(arguments);
     assert_eq!((ran.status, ran.err.as_str()), (0, ""), "{arguments:?}");
     ran.out
+}
+
+/// The commands that the help names, before the command help.
+fn commands() -> Vec<String> {
+    let mut commands = named(&printed(&["-h"]), "Commands:");
+    assert_eq!(commands.pop().as_deref(), Some("help"));
+    commands
+}
+
+/// The options of a command that its help names, without --help, which all have.
+fn options(command: &str) -> Vec<String> {
+    let options = named(&printed(&[command, "-h"]), "Options:");
+    options.into_iter().filter(|option| option.starts_with("--")).collect()
+}
+
+/// The first word of each line below a heading of a help text.
+fn named(help: &str, heading: &str) -> Vec<String> {
+    let below = help.lines().skip_while(|line| *line != heading).skip(1).take_while(|line| !line.is_empty());
+    below.map(|line| line.split_whitespace().next().unwrap().to_owned()).collect()
 }
 
 /// A run that fails with this status, prints nothing, and says this.

@@ -183,9 +183,12 @@ fn what_cannot_be_written_is_said() {
     unwritten(&running, "Text file busy (os error 26)");
     assert_eq!(names_in(&folder), ["loop", "running"]);
 
-    let full = OpenOptions::new().write(true).open("/dev/full").unwrap();
-    let ran = ended(program(&["draw"]).stdout(full).spawn().unwrap());
-    assert_eq!((ran.status, ran.err.as_str()), (1, "bliss-box: standard output: No space left on device (os error 28)\n"));
+    for arguments in [&["draw"][..], &["--help"], &["--version"], &["completions", "bash"], &["manual"]] {
+        let full = OpenOptions::new().write(true).open("/dev/full").unwrap();
+        let ran = ended(program(arguments).stdout(full).spawn().unwrap());
+        let problem = "bliss-box: standard output: No space left on device (os error 28)\n";
+        assert_eq!((ran.status, ran.err.as_str()), (1, problem), "{arguments:?}");
+    }
     let read_only = File::open("/dev/null").unwrap();
     let ran = ended(program(&["draw"]).stdout(read_only).spawn().unwrap());
     assert_eq!((ran.status, ran.err.as_str()), (1, "bliss-box: standard output: Bad file descriptor (os error 9)\n"));
@@ -196,7 +199,7 @@ fn a_closed_standard_output_is_an_error() {
     let folder = folder("closed");
     let list = format!("{folder}/list");
     let draw = ["draw", "--degree", "4", "--list", &list];
-    for arguments in [&["--help"][..], &["--version"], &["draw", "--help"], &["exp", "0"], &["demo"], &draw] {
+    for arguments in [&["--help"][..], &["--version"], &["draw", "--help"], &["exp", "0"], &["demo"], &["manual"], &draw] {
         let ran = ended(program_by("exec \"$0\" \"$@\" >&-", arguments).spawn().unwrap());
         assert_eq!((ran.status, ran.err.as_str()), (1, "bliss-box: standard output: it is closed\n"), "{arguments:?}");
     }

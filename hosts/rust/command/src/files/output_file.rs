@@ -1,12 +1,12 @@
 //! Files that a command writes.
 
-use std::ffi::OsStr;
 use std::fs::{self, File, OpenOptions};
 use std::io::{self, ErrorKind, Write};
 use std::os::unix::fs::OpenOptionsExt;
 use std::path::{Path, PathBuf};
 use std::process;
 
+use super::OutputPath;
 use crate::ending::Failure;
 
 /// A file that is written beside the one of its name, and replaces it once it is whole. A command that fails leaves the older file
@@ -24,20 +24,20 @@ struct Beside {
 }
 
 impl OutputFile {
-    pub fn create(path: &OsStr) -> Result<OutputFile, Failure> {
-        let name = path.to_string_lossy().into_owned();
-        let (file, beside) = open(Path::new(path)).map_err(|error| unwritable(&name, error))?;
+    pub fn create(path: &OutputPath) -> Result<OutputFile, Failure> {
+        let name = path.shown().into_owned();
+        let (file, beside) = open(path.as_ref()).map_err(|error| unwritable(&name, &error))?;
         Ok(OutputFile { name, file, beside })
     }
 
     pub fn write(&mut self, text: &[u8]) -> Result<(), Failure> {
-        self.file.write_all(text).map_err(|error| unwritable(&self.name, error))
+        self.file.write_all(text).map_err(|error| unwritable(&self.name, &error))
     }
 
     /// Waits until all that was written is on the disk, so that nothing but the replacing is left that could fail.
     pub fn sync(&self) -> Result<(), Failure> {
         match self.beside {
-            Some(_) => self.file.sync_all().map_err(|error| unwritable(&self.name, error)),
+            Some(_) => self.file.sync_all().map_err(|error| unwritable(&self.name, &error)),
             None => Ok(()),
         }
     }
@@ -45,7 +45,7 @@ impl OutputFile {
     /// Puts the file in the place of its name.
     pub fn keep(self) -> Result<(), Failure> {
         match &self.beside {
-            Some(Beside { path, target }) => fs::rename(path, target).map_err(|error| unwritable(&self.name, error)),
+            Some(Beside { path, target }) => fs::rename(path, target).map_err(|error| unwritable(&self.name, &error)),
             None => Ok(()),
         }
     }
@@ -63,9 +63,10 @@ fn open(path: &Path) -> io::Result<(File, Option<Beside>)> {
         Ok(metadata) => {
             // A directory, or a file that may not be written, is not replaced either: the error says so.
             let file = OpenOptions::new().write(true).open(path)?;
-            match metadata.is_file() {
-                true => create_beside(fs::canonicalize(path)?),
-                false => Ok((file, None)),
+            if metadata.is_file() {
+                create_beside(fs::canonicalize(path)?)
+            } else {
+                Ok((file, None))
             }
         }
         Err(error) if error.kind() == ErrorKind::NotFound && names_a_file(path) => create_beside(end_of_links(path)),
@@ -98,6 +99,6 @@ fn end_of_links(path: &Path) -> PathBuf {
     }
 }
 
-fn unwritable(name: &str, error: io::Error) -> Failure {
+fn unwritable(name: &str, error: &io::Error) -> Failure {
     Failure::at(name, format!("cannot be written: {error}"))
 }

@@ -188,7 +188,7 @@ fn a_draw_makes_as_many_attempts_as_a_limit_allows() {
     assert_eq!(problem, "entry 5890 is (2, 512), where (6, 0) or (6, 1), the samples accepted so far, is expected");
 
     let short = drawn("00000000");
-    let problem = explanation(&[&short[..46 * 7 + 1], &short[46 * 8 + 1..]].concat()).unwrap_err();
+    let problem = explanation(&[&short[..=46 * 7], &short[46 * 8 + 1..]].concat()).unwrap_err();
     assert_eq!(problem, "entry 324 is (6, 0), where (2, 28), word 28: high half of attempt 7's draw, is expected");
 
     let late = drawn("111111101");

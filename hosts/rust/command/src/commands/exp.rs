@@ -1,35 +1,37 @@
 //! `bliss-box exp`: prints the exponential.
 
 use bliss_box::exponential;
+use clap::Args;
 
-use crate::arguments::{Arguments, Command, Operands};
+use crate::arguments::whole_number;
 use crate::ending::{Failure, Status};
-use crate::numbers::{shown, whole};
 use crate::output;
 
-pub const COMMAND: Command = Command { name: "exp", options: &[], operands: Operands::OneOrMore("N"), help: HELP, run };
-
-const HELP: &str = "\
-bliss-box exp N..
-
-Prints e(N) for each N, 0 to 5534960: exp(-N / 92450), nearly, worked out in whole numbers. Noise
-and responses are accepted by it. It is printed in units of 2^-62, and as a decimal fraction that is
-cut, and not rounded, after 20 digits.
-";
+/// Prints e(N), the exponential by which noise and responses are accepted.
+///
+/// e(N) is exp(-N / 92450), nearly, worked out in whole numbers. It is printed in units of 2^-62, and as a decimal fraction that is
+/// cut, and not rounded, after 20 digits.
+#[derive(Args)]
+pub struct Exp {
+    /// Whole numbers from 0 to 5534960
+    #[arg(value_name = "N", required = true)]
+    #[arg(value_parser = whole_number::<u64>(), allow_negative_numbers = true)]
+    numbers: Vec<u64>,
+}
 
 /// The digits that are printed after the point: a unit is about 2 × 10^-19.
 const DIGITS: usize = 20;
 
-fn run(arguments: &Arguments) -> Result<Status, Failure> {
-    let mut text = String::new();
-    for operand in arguments.operands() {
-        let operand = operand.to_string_lossy();
-        let n = whole(&operand).map_err(|problem| Failure::at("N", problem.of(&shown(&operand))))?;
-        let e = exponential(n).map_err(|refusal| Failure::at(format!("N = {n}"), refusal))?;
-        text += &format!("e({n}) = {e} units of 2^-62 = {}\n", fraction(e));
+impl Exp {
+    pub fn run(&self) -> Result<Status, Failure> {
+        let mut text = String::new();
+        for n in &self.numbers {
+            let e = exponential(*n).map_err(|refusal| Failure::at(format!("N = {n}"), refusal))?;
+            text += &format!("e({n}) = {e} units of 2^-62 = {}\n", fraction(e));
+        }
+        output::print(text)?;
+        Ok(Status::Served)
     }
-    output::print(text)?;
-    Ok(Status::Served)
 }
 
 /// `units` of 2^-62 as a decimal fraction, cut after its last digit. Whole numbers alone: each digit is the whole part of ten times

@@ -1,6 +1,5 @@
 //! Files of whole numbers in decimal, one a line. Blank lines and lines that start with # are skipped.
 
-use std::ffi::OsStr;
 use std::fmt::Display;
 use std::fs::File;
 use std::io::{self, ErrorKind, Read};
@@ -9,7 +8,7 @@ use std::str;
 
 use bliss_box::Secret;
 
-use crate::arguments::STANDARD;
+use super::InputPath;
 use crate::ending::Failure;
 use crate::numbers::{shown, whole_of_line, Whole};
 
@@ -36,25 +35,25 @@ pub struct NumberFile {
 }
 
 impl NumberFile {
-    /// The file of this name, whose values messages may show; [`STANDARD`] is standard input.
-    pub fn public(path: &OsStr) -> Result<NumberFile, Failure> {
+    /// The file at this path, whose values messages may show.
+    pub fn public(path: &InputPath) -> Result<NumberFile, Failure> {
         NumberFile::open(path, false)
     }
 
     /// The same for a file of secrets: messages name lines of it, and show no value.
-    pub fn secret(path: &OsStr) -> Result<NumberFile, Failure> {
+    pub fn secret(path: &InputPath) -> Result<NumberFile, Failure> {
         NumberFile::open(path, true)
     }
 
-    fn open(path: &OsStr, is_secret: bool) -> Result<NumberFile, Failure> {
-        let name = if path == STANDARD { "standard input".into() } else { path.to_string_lossy().into_owned() };
-        let file = if path == STANDARD {
+    fn open(path: &InputPath, is_secret: bool) -> Result<NumberFile, Failure> {
+        let name = if path.is_standard() { "standard input".into() } else { path.shown().into_owned() };
+        let file = if path.is_standard() {
             // Not through std's handle, which has a buffer that nobody wipes.
             io::stdin().as_fd().try_clone_to_owned().map(File::from)
         } else {
             File::open(path)
         };
-        let file = file.map_err(|error| unreadable(&name, error))?;
+        let file = file.map_err(|error| unreadable(&name, &error))?;
         let (chunk, line) = (Secret::zeroed(1 << 16), Secret::zeroed(LONGEST_LINE));
         Ok(NumberFile { name, is_secret, file, chunk, next: 0, end: 0, line, line_number: 0 })
     }
@@ -105,7 +104,7 @@ impl NumberFile {
                 Ok(0) => return Ok(None),
                 Ok(count) => (self.next, self.end) = (0, count),
                 Err(error) if error.kind() == ErrorKind::Interrupted => {}
-                Err(error) => return Err(unreadable(&self.name, error)),
+                Err(error) => return Err(unreadable(&self.name, &error)),
             }
         }
         self.next += 1;
@@ -113,7 +112,7 @@ impl NumberFile {
     }
 }
 
-fn unreadable(name: &str, error: io::Error) -> Failure {
+fn unreadable(name: &str, error: &io::Error) -> Failure {
     Failure::at(name, format!("cannot be read: {error}"))
 }
 

@@ -6,25 +6,23 @@ use std::time::{Duration, Instant};
 
 use bliss_box::{draw_limit, draw_word_count, sample_count, Counts, Entry, Kind, Noise, OwnedDraw, OwnedResponse, Session};
 use bliss_box::{CDT, POLYNOMIAL, RESPOND_WORDS};
+use clap::Args;
 
-use crate::arguments::{Arguments, Command, Operands};
-use crate::draw;
+use crate::drawing::Degree;
 use crate::ending::{Failure, Status};
 use crate::output;
 use crate::words::Words;
 use picture::Picture;
 
-pub const COMMAND: Command = Command { name: "demo", options: &["--degree"], operands: Operands::None, help: HELP, run };
-
-const HELP: &str = "\
-bliss-box demo [--degree N]
-
-Draws the noise of one signature from the system's random words, and answers a challenge with it and
-a toy key. Shows the noise beside what is expected of it, the counts, the times, and what was
-listed.
-
-    --degree N    the degree: a power of two from 4 to 1024 (512)
-";
+/// Draws and responds with a toy key, and shows a picture of the noise.
+///
+/// Draws the noise of one signature from the system's random words, and answers a challenge with it and a toy key. Shows the noise
+/// beside what is expected of it, the counts, the times, and what was listed.
+#[derive(Args)]
+pub struct Demo {
+    #[command(flatten)]
+    degree: Degree,
+}
 
 const INTRODUCTION: &str = "\
 A BLISS-I signature hides its key behind noise: random whole numbers around 0, each of which must
@@ -55,19 +53,21 @@ struct Shown {
     list: Vec<u32>,
 }
 
-fn run(arguments: &Arguments) -> Result<Status, Failure> {
-    let mut session = draw::open(arguments)?;
-    let mut tries = 0;
-    let shown = loop {
-        let (next, shown) = try_once(session, tries)?;
-        session = next;
-        tries += 1;
-        if let Some(shown) = shown {
-            break shown;
-        }
-    };
-    output::print(shown.text(session.degree(), tries))?;
-    Ok(Status::Served)
+impl Demo {
+    pub fn run(&self) -> Result<Status, Failure> {
+        let mut session = self.degree.open()?;
+        let mut tries = 0;
+        let shown = loop {
+            let (next, shown) = try_once(session, tries)?;
+            session = next;
+            tries += 1;
+            if let Some(shown) = shown {
+                break shown;
+            }
+        };
+        output::print(shown.text(session.degree(), tries))?;
+        Ok(Status::Served)
+    }
 }
 
 /// One try. A spent draw has no noise to respond with, so it is a try that fails.

@@ -127,7 +127,7 @@ mod tests {
         let weights = weights_of_samples();
         assert_eq!(weights.len(), 2 * 2816 - 1);
         let all: f64 = weights.iter().map(|(_, weight)| weight).sum();
-        assert!((all / 512.0 - 0.677956).abs() < 5e-7);
+        assert!((all / 512.0 - 0.677_956).abs() < 5e-7);
         let squares: f64 = weights.iter().map(|(sample, weight)| f64::from(*sample).powi(2) * weight).sum();
         assert!(((squares / all).sqrt() - 215.0).abs() < 0.001);
         let of = |wanted| weights.iter().filter(|(sample, _)| *sample == wanted).map(|(_, weight)| weight).sum::<f64>();

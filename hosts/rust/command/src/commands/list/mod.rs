@@ -9,38 +9,43 @@ mod tests;
 use std::iter;
 
 use bliss_box::{Entry, Kind, Session};
+use clap::{Args, ValueHint};
 
-use crate::arguments::{Arguments, Command, Operands};
 use crate::ending::{Failure, Status};
-use crate::files::{self, NumberFile};
+use crate::files::{self, InputPath, NumberFile};
 use crate::output;
+use crate::program::SEE_FILES;
 use entries::Entries;
 
-pub const COMMAND: Command = Command { name: "list", options: &[], operands: Operands::File, help: HELP, run };
+/// Explains a read list, entry by entry.
+///
+/// Prints for each entry its number in the file, its kind and place, and what it tells.
+///
+/// Whoever reads a read list learns the degree, which attempts were accepted, the challenge, and whether the response was accepted;
+/// these are printed again at the end of each call. An entry that cannot stand where it stands is an error. Each call is printed
+/// once it is read whole, so that the calls before the error are printed too.
+#[derive(Args)]
+#[command(after_help = SEE_FILES)]
+pub struct List {
+    /// The read list of one call, or those of a session's calls, as --list writes them
+    ///
+    /// The lists of a session's calls stand one after another. A list has one entry a line, each kind * 2^24 + place.
+    #[arg(value_hint = ValueHint::FilePath)]
+    file: InputPath,
+}
 
-const HELP: &str = "\
-bliss-box list FILE
-
-Explains a read list: for each entry its number in the file, its kind and place, and what it tells.
-The file holds the read list of one call, or those of a session's calls, one after another, as
---list writes them: one entry a line, each kind * 2^24 + place.
-
-Whoever reads a read list learns the degree, which attempts were accepted, the challenge, and
-whether the response was accepted; these are printed again at the end of each call. An entry that
-cannot stand where it stands is an error. Each call is printed once it is read whole, so that the
-calls before the error are printed too. bliss-box --help says what files hold.
-";
-
-fn run(arguments: &Arguments) -> Result<Status, Failure> {
-    let mut file = NumberFile::public(&arguments.operands()[0])?;
-    let name = file.name().to_owned();
-    let mut source = iter::from_fn(|| file.number().transpose());
-    let mut entries = Entries::of(&name, &mut source);
-    if entries.next()?.is_none() {
-        return Err(files::empty(&name));
+impl List {
+    pub fn run(&self) -> Result<Status, Failure> {
+        let mut file = NumberFile::public(&self.file)?;
+        let name = file.name().to_owned();
+        let mut source = iter::from_fn(|| file.number().transpose());
+        let mut entries = Entries::of(&name, &mut source);
+        if entries.next()?.is_none() {
+            return Err(files::empty(&name));
+        }
+        explain(&mut entries, output::print)?;
+        Ok(Status::Served)
     }
-    explain(&mut entries, output::print)?;
-    Ok(Status::Served)
 }
 
 /// Puts a read list in words, call by call: no more than one call is held, and what stands before a damaged one is printed.
@@ -54,12 +59,11 @@ fn explain(entries: &mut Entries, mut print: impl FnMut(String) -> Result<(), Fa
         }
         let first = beginning(entries, degree, may_respond)?;
         degree = Some(first.place());
-        may_respond = match first.kind() {
-            Some(Kind::Draw) => draw::explain(entries, first.place())?,
-            _ => {
-                response::explain(entries, first.place())?;
-                false
-            }
+        may_respond = if first.kind() == Some(Kind::Draw) {
+            draw::explain(entries, first.place())?
+        } else {
+            response::explain(entries, first.place())?;
+            false
         };
         print(entries.take_text())?;
     }

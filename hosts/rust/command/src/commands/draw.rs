@@ -1,0 +1,39 @@
+//! `bliss-box draw`: draws the noise of one signature.
+
+use bliss_box::OwnedDraw;
+use clap::Args;
+
+use crate::drawing::{self, DrawOptions};
+use crate::ending::{Failure, Status};
+use crate::output;
+use crate::program::SEE_FILES;
+
+/// Draws the noise of one signature.
+///
+/// Draws 2N samples of noise and prints them, one a line. What was counted goes to standard error.
+///
+/// A full draw, with 2N samples accepted, ends with status 0. A spent one, with fewer after L attempts, ends with status 3 and
+/// prints no samples.
+#[derive(Args)]
+#[command(after_help = SEE_FILES)]
+pub struct Draw {
+    #[command(flatten)]
+    options: DrawOptions,
+}
+
+impl Draw {
+    pub fn run(&self) -> Result<Status, Failure> {
+        let session = self.options.open()?;
+        let mut drawing = self.options.drawing(&session)?;
+        let mut lists = self.options.lists()?;
+        let drawn = drawing.draw(session)?;
+        let (samples, list, status) = match &drawn {
+            OwnedDraw::Full(noise) => (noise.samples(), noise.list(), Status::Served),
+            OwnedDraw::Spent(spent) => (&[][..], &spent.list[..], Status::Unserved),
+        };
+        lists.add(list)?;
+        lists.deliver(samples)?;
+        output::say(&drawing::summary(&drawn));
+        Ok(status)
+    }
+}

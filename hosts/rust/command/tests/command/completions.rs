@@ -1,0 +1,47 @@
+//! `bliss-box completions`.
+
+use super::*;
+
+/// What bash offers for the last word of a command line.
+fn offered(line: &[&str]) -> String {
+    let script = "source <(\"$0\" completions bash) && COMP_WORDS=(\"$@\") && COMP_CWORD=$(($# - 1)) \
+                  && $(complete -p bliss-box | sed 's/.* -F \\([^ ]*\\) .*/\\1/') bliss-box && echo \"${COMPREPLY[@]}\"";
+    let mut bash = Command::new("bash");
+    bash.args(["-c", script, env!("CARGO_BIN_EXE_bliss-box")]).args(line);
+    let ran = ended(bash.stdin(Stdio::null()).stdout(Stdio::piped()).stderr(Stdio::piped()).spawn().unwrap());
+    assert_eq!((ran.status, ran.err.as_str()), (0, ""), "{line:?}");
+    ran.out.trim_end().to_owned()
+}
+
+#[test]
+fn bash_completes_commands_options_and_files() {
+    assert_eq!(offered(&["bliss-box", "dr"]), "draw");
+    assert_eq!(offered(&["bliss-box", "draw", "--li"]), "--limit --list");
+    assert_eq!(offered(&["bliss-box", "draw", "--tr"]), "");
+    assert_eq!(offered(&["bliss-box", "completions", "po"]), "powershell");
+    let list = file("completed-list", "");
+    assert_eq!(offered(&["bliss-box", "draw", "--list", &list[..list.len() - 4]]), list);
+}
+
+#[test]
+fn each_shell_knows_each_command_and_option() {
+    for shell in ["bash", "elvish", "fish", "powershell", "zsh"] {
+        let script = printed(&["completions", shell]);
+        for command in commands() {
+            assert!(script.contains(&command), "{shell} {command}");
+            for option in options(&command) {
+                // fish writes an option without its dashes.
+                assert!(script.contains(&option) || script.contains(&format!("-l {}", &option[2..])), "{shell} {option}");
+            }
+        }
+    }
+}
+
+/// A file's name is completed where a value is a file: zsh is told so for each.
+#[test]
+fn each_file_is_completed_as_a_file() {
+    let helps: String = commands().iter().map(|command| printed(&[command, "-h"])).collect();
+    let files = helps.lines().filter(|line| line.starts_with(' ') && line.contains("<FILE>")).count();
+    assert!(files >= 9, "{helps}");
+    assert_eq!(printed(&["completions", "zsh"]).matches(":_files'").count(), files);
+}
