@@ -57,6 +57,9 @@ pub use secret::Secret;
 pub use tables::{challenge_limit, draw_limit, draw_list_length, draw_word_count, respond_list_length, sample_count};
 pub use tables::{CDT, POLYNOMIAL, RESPOND_WORDS};
 
+// The bound of a secret's values, for a host that has to name it and has no zeroize of its own.
+pub use zeroize::DefaultIsZeroes;
+
 /// A degree, and whether y is drawn. A draw or a response takes the session and hands back the next one, so that none is used twice:
 ///
 /// ```compile_fail,E0382

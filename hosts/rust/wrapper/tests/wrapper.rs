@@ -231,6 +231,12 @@ fn system_words_are_fresh() {
 }
 
 #[test]
+#[should_panic = "capacity overflow"]
+fn system_words_whose_bytes_have_no_number_are_not_fewer() {
+    let _ = Secret::system_words(1 << 61);
+}
+
+#[test]
 fn the_known_points_of_an_attempt_hold() {
     let thresholds: Vec<u64> = (1..=10).flat_map(|i| [i << 40, 0]).collect();
     let all = (1 << 62) - 1;
