@@ -1,10 +1,15 @@
 //! Memory for what is secret, wiped when it is dropped, and fresh random words in it.
 
-use std::fmt;
+use alloc::vec;
+use alloc::vec::Vec;
+use core::fmt;
+use core::ops::{Deref, DerefMut};
+#[cfg(feature = "std")]
 use std::io;
-use std::ops::{Deref, DerefMut};
 
-use zeroize::{DefaultIsZeroes, Zeroize, ZeroizeOnDrop, Zeroizing};
+#[cfg(feature = "std")]
+use zeroize::Zeroizing;
+use zeroize::{DefaultIsZeroes, Zeroize, ZeroizeOnDrop};
 
 /// Values that are wiped when they are dropped: words, noise, keys. They are lent as any slice is, and never printed.
 pub struct Secret<T: DefaultIsZeroes>(Vec<T>);
@@ -15,6 +20,7 @@ impl<T: DefaultIsZeroes> Secret<T> {
     /// # Panics
     ///
     /// Where so many values have more than `isize::MAX` bytes.
+    #[must_use]
     pub fn zeroed(length: usize) -> Secret<T> {
         Secret(vec![T::default(); length])
     }
@@ -26,8 +32,9 @@ impl<T: DefaultIsZeroes> Secret<T> {
     }
 }
 
+#[cfg(feature = "std")]
 impl Secret<u64> {
-    /// Fresh words from the system's random source, once that is fit for keys.
+    /// Fresh words from the system's random source, once that is fit for keys. It is there with the feature `std` alone.
     ///
     /// # Errors
     ///

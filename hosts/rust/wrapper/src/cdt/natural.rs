@@ -1,6 +1,6 @@
 //! Natural numbers of 640 bits, with the few operations that working a table out takes.
 
-use std::ops::{Add, Div, Mul, Sub};
+use core::ops::{Add, Div, Mul, Sub};
 
 const LIMBS: usize = 10;
 
