@@ -28,7 +28,7 @@ unsafe impl GlobalAlloc for Watching {
             let count = if bytes.iter().all(|&byte| byte == 0) { &ZEROED } else { &NOT_ZEROED };
             count.fetch_add(1, SeqCst);
         }
-        System.dealloc(block, layout)
+        System.dealloc(block, layout);
     }
 }
 

@@ -44,7 +44,7 @@ fn a_spent_draw_clears_drawn() {
 #[test]
 fn the_largest_limit_is_served() {
     let words = [u64::MAX; draw_word_count(32 * N)];
-    let mut list = [9; draw_list_length(32 * N)];
+    let mut list = vec![9; draw_list_length(32 * N)];
     let spent = Session::open(N).unwrap().draw(32 * N, &CDT, &POLYNOMIAL, &words, &mut [1; 8], &mut list);
     assert_eq!(spent.answer, Ok(Counts { attempts: 128, accepted: 0, entries: draw_list_length(32 * N) }));
 }

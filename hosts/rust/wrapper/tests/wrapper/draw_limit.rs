@@ -3,7 +3,7 @@
 use bliss_box::{draw_limit, sample_count, Session};
 
 /// The chance that an attempt with the CDT is accepted.
-const ACCEPTED: f64 = 0.677956;
+const ACCEPTED: f64 = 0.677_956;
 
 /// The binary logarithm of the chance that a draw is spent: that fewer than `wanted` of `limit` attempts are accepted. The last
 /// term of this binomial tail is the largest, so it is the one that the others are measured by.
