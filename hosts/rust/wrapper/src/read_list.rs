@@ -77,20 +77,20 @@ pub struct Entry(pub u32);
 impl Entry {
     const PLACES: u32 = 1 << 24;
 
-    /// The place must be below 2^24, as every place of the box is.
+    /// The entry of a kind and a place, which must be below 2^24, as every place of the box is.
     #[inline]
     #[must_use]
     pub const fn new(kind: Kind, place: usize) -> Entry {
         Entry(kind.number() * Entry::PLACES + place as u32)
     }
 
-    /// None where the number is no kind: such an entry is not the box's.
+    /// The kind, or none where the number is no kind: such an entry is not the box's.
     #[must_use]
     pub fn kind(self) -> Option<Kind> {
         Kind::ALL.into_iter().find(|kind| kind.number() == self.0 / Entry::PLACES)
     }
 
-    /// Below 2^24. What it counts is told by the kind.
+    /// The place, which is below 2^24. What it is, the kind tells.
     #[must_use]
     pub const fn place(self) -> usize {
         (self.0 % Entry::PLACES) as usize

@@ -4,11 +4,7 @@ use alloc::vec;
 use alloc::vec::Vec;
 use core::fmt;
 use core::ops::{Deref, DerefMut};
-#[cfg(feature = "std")]
-use std::io;
 
-#[cfg(feature = "std")]
-use zeroize::Zeroizing;
 use zeroize::{DefaultIsZeroes, Zeroize, ZeroizeOnDrop};
 
 /// Values that are wiped when they are dropped: words, noise, keys. They are lent as any slice is, and never printed.
@@ -43,8 +39,8 @@ impl Secret<u64> {
     /// # Panics
     ///
     /// Where so many words have more than `isize::MAX` bytes.
-    pub fn system_words(count: usize) -> io::Result<Secret<u64>> {
-        let mut words = Zeroizing::new(vec![[0; size_of::<u64>()]; count]);
+    pub fn system_words(count: usize) -> std::io::Result<Secret<u64>> {
+        let mut words = zeroize::Zeroizing::new(vec![[0; size_of::<u64>()]; count]);
         getrandom::getrandom(words.as_flattened_mut())?;
         // Their number is known, so they are collected in one block of memory, and none is left in a smaller one.
         Ok(Secret(words.iter().map(|bytes| u64::from_ne_bytes(*bytes)).collect()))
