@@ -1,7 +1,7 @@
 """Compares the tables that compiled programs print with their rules: those of the C header, and those that the Rust host works out for
 every deviation that it serves.
 
-usage: compiled.py HEADER CDT, the programs of header.c and of hosts/rust/examples/cdt.rs
+usage: compiled.py HEADER CDT, the programs of header.c and of hosts/rust/wrapper/examples/cdt.rs
 """
 import subprocess
 import sys

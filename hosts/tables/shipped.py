@@ -35,7 +35,7 @@ CDT_215 = rules.cdt(215)
 # The tables of each file, with what they are by their rules.
 FILES = {
     "hosts/c/bliss_box.h": (C, {"BLISS_POLYNOMIAL": POLYNOMIAL, "BLISS_CDT_215": CDT_215}),
-    "hosts/rust/src/tables.rs": (RUST, {"CDT": CDT_215}),
+    "hosts/rust/wrapper/src/tables.rs": (RUST, {"CDT": CDT_215}),
     "crates/known_points/specs/DefaultCdt.antt": (RATTLE, {"cdt215": CDT_215}),
 }
 

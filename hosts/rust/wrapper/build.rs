@@ -1,4 +1,4 @@
-//! Links libbliss_box.a: from the folder that BLISS_BOX_LIB_DIR names, else from the repository's target/staticlib, where
+//! Links `libbliss_box.a`: from the folder that `BLISS_BOX_LIB_DIR` names, else from the repository's `target/staticlib`, where
 //! `rt staticlib bliss_box` writes it. A relative folder counts from this package's own.
 
 use std::env;

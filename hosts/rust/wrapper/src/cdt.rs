@@ -3,9 +3,10 @@
 
 mod natural;
 
+use core::array;
+use core::ops::Add;
+
 use natural::Natural;
-use std::array;
-use std::ops::Add;
 
 /// The CDT table of a deviation from 107 to 271: ten thresholds, each a high word and a low word of 62 bits. Threshold i is the
 /// nearest whole number to 2^124 times the chance that the base sample is below i, where j has the weight
@@ -17,6 +18,7 @@ use std::ops::Add;
 /// assert_eq!(cdt(215), Some(CDT));
 /// assert_eq!(cdt(272), None);
 /// ```
+#[must_use]
 pub fn cdt(deviation: u32) -> Option<[u64; 20]> {
     if !(107..=271).contains(&deviation) {
         return None;
@@ -125,8 +127,8 @@ mod tests {
         for deviation in 107..=271 {
             let table = cdt(deviation).unwrap();
             assert!(table.iter().all(|&word| word < 1 << 62), "{deviation}: {table:?}");
-            let thresholds: Vec<&[u64]> = table.chunks_exact(2).collect();
-            assert!(thresholds.windows(2).all(|pair| pair[0] <= pair[1]), "{deviation}: {table:?}");
+            let mut pairs = table.chunks_exact(2).zip(table[2..].chunks_exact(2));
+            assert!(pairs.all(|(threshold, next)| threshold <= next), "{deviation}: {table:?}");
         }
     }
 

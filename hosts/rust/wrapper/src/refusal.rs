@@ -1,122 +1,84 @@
 //! Why a call was refused.
 
-use std::fmt;
+use core::error;
+use core::fmt;
 
-/// A refusal of document 01. A refused call changes nothing that it was lent.
-#[derive(Clone, Copy, Debug, PartialEq, Eq, Hash)]
-#[non_exhaustive]
-pub enum Refusal {
-    /// The degree is not a power of two from 4 to 1,024.
-    Degree,
-    /// A table, y, z or the key has another length than it must have.
-    Lengths,
-    /// A word of the CDT table is 2^62 or more, or a threshold is below the one before.
-    Cdt,
-    /// An entry of the polynomial table is not the whole part of 2^62 / j!.
-    Polynomial,
-    /// The limit is outside 2n to 32n.
-    Limit,
-    /// The challenge is empty, longer than 64 or than n, has a position of n or more, or does not ascend strictly.
-    Challenge,
-    /// There are fewer than four words for each attempt of a draw, or than three for a response.
-    Words,
-    /// The list is too short for as many attempts as the limit allows, or for the positions of the challenge.
-    List,
-    /// A response was asked for while nothing is drawn.
-    NotDrawn,
-    /// A value of the key is outside -7 to 7.
-    Key,
-    /// A value of y is outside -2,815 to 2,815.
-    Y,
-    /// The exponential by N alone was asked for an N above 5,534,960.
-    Exponential,
-    /// A number that this crate has no name for.
-    Unknown(u32),
+/// Makes [`Refusal`] of lines that each say all there is of a refusal: document 01's number, the name, and the reason.
+macro_rules! refusals {
+    ($($number:literal $name:ident: $reason:literal,)*) => {
+        /// A refusal of document 01. A refused call changes nothing that it was lent.
+        #[derive(Clone, Copy, Debug, PartialEq, Eq, Hash)]
+        #[non_exhaustive]
+        pub enum Refusal {
+            $(#[doc = $reason] $name,)*
+            /// A number that this crate has no name for.
+            Unknown(u32),
+        }
+
+        impl Refusal {
+            /// Document 01's number of this refusal.
+            #[must_use]
+            pub const fn number(self) -> u32 {
+                match self {
+                    $(Refusal::$name => $number,)*
+                    Refusal::Unknown(number) => number,
+                }
+            }
+
+            const fn reason(self) -> &'static str {
+                match self {
+                    $(Refusal::$name => $reason,)*
+                    Refusal::Unknown(_) => "it has no name here",
+                }
+            }
+        }
+
+        /// Whether a call was served, by the number in its answer, where 0 is no refusal.
+        pub(crate) const fn served(number: u32) -> Result<(), Refusal> {
+            match number {
+                0 => Ok(()),
+                $($number => Err(Refusal::$name),)*
+                _ => Err(Refusal::Unknown(number)),
+            }
+        }
+    };
 }
 
-impl Refusal {
-    /// Those with a name, in the order of their numbers.
-    const NAMED: [Refusal; 12] = [
-        Refusal::Degree,
-        Refusal::Lengths,
-        Refusal::Cdt,
-        Refusal::Polynomial,
-        Refusal::Limit,
-        Refusal::Challenge,
-        Refusal::Words,
-        Refusal::List,
-        Refusal::NotDrawn,
-        Refusal::Key,
-        Refusal::Y,
-        Refusal::Exponential,
-    ];
-
-    /// Document 01's number of this refusal.
-    pub const fn number(self) -> u32 {
-        match self {
-            Refusal::Degree => 1,
-            Refusal::Lengths => 2,
-            Refusal::Cdt => 3,
-            Refusal::Polynomial => 4,
-            Refusal::Limit => 5,
-            Refusal::Challenge => 6,
-            Refusal::Words => 7,
-            Refusal::List => 8,
-            Refusal::NotDrawn => 9,
-            Refusal::Key => 10,
-            Refusal::Y => 11,
-            Refusal::Exponential => 12,
-            Refusal::Unknown(number) => number,
-        }
-    }
-
-    /// The refusal in an answer of the box, where 0 is none.
-    pub(crate) fn of_answer(number: u32) -> Option<Refusal> {
-        if number == 0 {
-            return None;
-        }
-        let named = Refusal::NAMED.into_iter().find(|refusal| refusal.number() == number);
-        Some(named.unwrap_or(Refusal::Unknown(number)))
-    }
+refusals! {
+    1 Degree: "the degree is not a power of two from 4 to 1024",
+    2 Lengths: "the CDT is not 20 words, the polynomial table not 21, or y, z or the key not 2n",
+    3 Cdt: "a word of the CDT is 2^62 or more, or a threshold is below the one before",
+    4 Polynomial: "an entry of the polynomial table is not the whole part of 2^62 / j!",
+    5 Limit: "the limit is outside 2n to 32n attempts",
+    6 Challenge: "the challenge is empty, longer than 64 or than n, has a position of n or more, or does not ascend strictly",
+    7 Words: "there are fewer words than 4 for each attempt of a draw, or than 3 for a response",
+    8 List: "the list is shorter than 46 entries for each attempt of a draw and 2 more, \
+             or than 2n for each position of a challenge and 47 more",
+    9 NotDrawn: "nothing is drawn to respond with",
+    10 Key: "a value of the key is outside -7 to 7",
+    11 Y: "a value of y is outside -2815 to 2815",
+    12 Exponential: "N is above 5534960",
 }
 
 impl fmt::Display for Refusal {
     fn fmt(&self, f: &mut fmt::Formatter) -> fmt::Result {
-        let reason = match self {
-            Refusal::Degree => "the degree is not a power of two from 4 to 1024",
-            Refusal::Lengths => "the CDT is not 20 words, the polynomial table not 21, or y, z or the key not 2n",
-            Refusal::Cdt => "a word of the CDT is 2^62 or more, or a threshold is below the one before",
-            Refusal::Polynomial => "an entry of the polynomial table is not the whole part of 2^62 / j!",
-            Refusal::Limit => "the limit is outside 2n to 32n attempts",
-            Refusal::Challenge => {
-                "the challenge is empty, longer than 64 or than n, has a position of n or more, or does not ascend strictly"
-            }
-            Refusal::Words => "there are fewer words than 4 for each attempt of a draw, or than 3 for a response",
-            Refusal::List => {
-                "the list is shorter than 46 entries for each attempt of a draw and 2 more, \
-                 or than 2n for each position of a challenge and 47 more"
-            }
-            Refusal::NotDrawn => "nothing is drawn to respond with",
-            Refusal::Key => "a value of the key is outside -7 to 7",
-            Refusal::Y => "a value of y is outside -2815 to 2815",
-            Refusal::Exponential => "N is above 5534960",
-            Refusal::Unknown(_) => "it has no name here",
-        };
-        write!(f, "refusal {}: {reason}", self.number())
+        write!(f, "refusal {}: {}", self.number(), self.reason())
     }
 }
 
-impl std::error::Error for Refusal {}
+impl error::Error for Refusal {}
 
 #[cfg(test)]
 mod tests {
     use super::*;
+    use alloc::format;
+    use alloc::string::ToString;
 
     #[test]
     fn every_number_of_an_answer_is_a_refusal_but_0() {
-        assert_eq!(Refusal::of_answer(0), None);
+        assert_eq!(served(0), Ok(()));
         for number in (1..100).chain([u32::MAX]) {
-            let refusal = Refusal::of_answer(number).unwrap();
+            let refusal = served(number).unwrap_err();
             assert_eq!(refusal.number(), number);
             assert_eq!(refusal == Refusal::Unknown(number), number > 12, "{number}");
             assert!(refusal.to_string().starts_with(&format!("refusal {number}: ")));

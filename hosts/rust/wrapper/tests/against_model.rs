@@ -3,10 +3,10 @@
 //! The last line says how many calls were compared. A run of the default length, or a longer one, fails where it misses a case, or
 //! compares less than the documents say.
 //!
-//! BLISS_CALLS is the number of single draws to compare, and of single respond calls; the other parts of a run grow with it.
-//! BLISS_SEED is the seed of the first one of each, and each one after it has the next. A failure names the seed: with it and
-//! BLISS_CALLS=1 the failure comes again at once. A word on the command line picks the parts that have it in their names, of
-//! which there must be one. BLISS_CASES=1 prints the cases that were met, and how often.
+//! `BLISS_CALLS` is the number of single draws to compare, and of single respond calls; the other parts of a run grow with it.
+//! `BLISS_SEED` is the seed of the first one of each, and each one after it has the next. A failure names the seed: with it and
+//! `BLISS_CALLS=1` the failure comes again at once. A word on the command line picks the parts that have it in their names, of
+//! which there must be one. `BLISS_CASES=1` prints the cases that were met, and how often.
 
 mod archive;
 mod calls;
@@ -58,7 +58,9 @@ fn main() -> ExitCode {
     let words: Vec<String> = env::args().skip(1).filter(|word| !word.starts_with('-')).collect();
     if let Some(word) = words.iter().find(|word| !PARTS.iter().any(|(name, _)| name.contains(word.as_str()))) {
         eprintln!("against_model has no part with {word:?} in its name. Its parts are:");
-        PARTS.iter().for_each(|(name, _)| eprintln!("    {name}"));
+        for (name, _) in PARTS {
+            eprintln!("    {name}");
+        }
         return ExitCode::FAILURE;
     }
     let wanted = |name: &str| words.is_empty() || words.iter().any(|word| name.contains(word.as_str()));

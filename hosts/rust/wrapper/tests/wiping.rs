@@ -28,7 +28,7 @@ unsafe impl GlobalAlloc for Watching {
             let count = if bytes.iter().all(|&byte| byte == 0) { &ZEROED } else { &NOT_ZEROED };
             count.fetch_add(1, SeqCst);
         }
-        System.dealloc(block, layout)
+        System.dealloc(block, layout);
     }
 }
 
@@ -51,6 +51,9 @@ fn secrets_are_wiped_when_they_are_dropped() {
     let mut truncated = vec![1u64; 7777];
     truncated.truncate(1);
     assert_eq!(given_back(8 * 7777, || drop(Secret::from(truncated))), (1, 0), "what was cut off a vector is wiped too");
+
+    let system_words = || Secret::system_words(7777).unwrap();
+    assert_eq!(given_back(8 * 7777, system_words), (1, 0), "the bytes that words are made of are wiped");
 
     let (n, limit) = (64, 9 * 64);
     let draw = || {

@@ -1,23 +1,21 @@
 #!/bin/sh
 # Shows that the comparison of calls with the model is no empty one: the model is made wrong in one place at a time, in a scratch
-# copy of this package, and the comparison must fail. Each line says in what the wrong model was noticed to differ from the
+# copy of the Rust hosts, and the comparison must fail. Each line says in what the wrong model was noticed to differ from the
 # archive. It takes about five minutes.
 #
-# usage: hosts/rust/tests/wrong_models.sh
+# usage: hosts/rust/wrapper/tests/wrong_models.sh
 set -eu
+cd "$(dirname "$0")/../../../.."
 
-package=$(cd "$(dirname "$0")/.." && pwd)
-"$package/../../scripts/need" cargo cargo python3 python3
-BLISS_BOX_LIB_DIR=$(cd "$package" && cd "${BLISS_BOX_LIB_DIR:-../../target/staticlib}" && pwd)
+scripts/need --rust python3 python3
+model=hosts/rust/wrapper/tests/model
 scratch=$(mktemp -d)
 trap 'rm -rf "$scratch"' EXIT
-for file in "$package"/*; do
-    [ "$file" = "$package/target" ] || cp -R "$file" "$scratch"
-done
-cd "$scratch"
+mkdir -p "$scratch/hosts/rust"
+cp -R hosts/rust/Cargo.toml hosts/rust/wrapper hosts/rust/command "$scratch/hosts/rust"
 
 # Many builds that differ little, and short runs.
-export BLISS_BOX_LIB_DIR BLISS_CALLS=2000 BLISS_SEED=1 CARGO_TARGET_DIR="$scratch/target"
+export BLISS_RUST="$scratch/hosts/rust" CARGO_TARGET_DIR="$scratch/target" BLISS_CALLS=2000 BLISS_SEED=1
 export CARGO_PROFILE_TEST_OPT_LEVEL=0 CARGO_PROFILE_TEST_DEBUG=0 CARGO_INCREMENTAL=1 RUST_BACKTRACE=0
 count=0
 unnoticed=0
@@ -31,7 +29,7 @@ fail() {
 # Compares with the model as it now stands. A run of an older build would show nothing.
 compare() {
     status=0
-    cargo test --offline --test against_model >"$scratch/log" 2>&1 || status=$?
+    scripts/cargo test -p bliss-box --test against_model >"$scratch/log" 2>&1 || status=$?
     grep -q 'Compiling bliss-box' "$scratch/log" || fail "the model was not compiled anew"
     return "$status"
 }
@@ -44,7 +42,7 @@ differences() {
 # wrong NAME RIGHT WRONG: the text RIGHT, which the file $part of the model has exactly once, becomes WRONG. The
 # model must not panic by it, with an index out of range for instance: a panic hides in what the model would differ.
 wrong() {
-    python3 - "$package/tests/model/$part" "$scratch/tests/model/$part" "$2" "$3" <<'END'
+    python3 - "$model/$part" "$scratch/$model/$part" "$2" "$3" <<'END'
 import sys
 
 source, target, right, wrong = sys.argv[1:]
@@ -58,12 +56,12 @@ END
         unnoticed=$((unnoticed + 1))
         echo "NOT NOTICED: $1"
     else
-        ! grep -q 'panicked at tests/model/' "$scratch/log" || fail "$1: the wrong model panics"
+        ! grep -q 'panicked at wrapper/tests/model/' "$scratch/log" || fail "$1: the wrong model panics"
         differing=$(differences | paste -sd , - | sed 's/,/, /g')
         [ -n "$differing" ] || fail "$1: it failed, but not in a comparison"
         echo "$1: noticed in $differing"
     fi
-    cp "$package/tests/model/$part" "$scratch/tests/model/$part"
+    cp "$model/$part" "$scratch/$model/$part"
 }
 
 # wrong_by_values NAME RIGHT WRONG: one that must be noticed in more than the read list.

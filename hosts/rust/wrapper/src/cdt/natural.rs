@@ -1,6 +1,6 @@
 //! Natural numbers of 640 bits, with the few operations that working a table out takes.
 
-use std::ops::{Add, Div, Mul, Sub};
+use core::ops::{Add, Div, Mul, Sub};
 
 const LIMBS: usize = 10;
 
@@ -117,7 +117,7 @@ mod tests {
     #[test]
     fn a_product_carries_and_a_quotient_is_its_inverse() {
         assert_eq!(BELOW_HIGH * u64::MAX, Natural([u64::MAX - 1, !0, !0, !0, !0, !0, !0, !0, !0, 1]));
-        for factor in [1, 2, 3, 6553600, u64::MAX] {
+        for factor in [1, 2, 3, 6_553_600, u64::MAX] {
             assert_eq!(BELOW_HIGH * factor / factor, BELOW_HIGH, "{factor}");
             assert_eq!((BELOW_HIGH * factor).div_ceil(factor), BELOW_HIGH, "{factor}");
         }
@@ -125,7 +125,8 @@ mod tests {
 
     #[test]
     fn a_quotient_is_cut_or_rounded_up() {
-        for (number, divisor) in [(one(), 2), (HIGH, 3), (HIGH + one(), 6553600), (MOST - Natural::from(1 << 23), 3276800)] {
+        for (number, divisor) in [(one(), 2), (HIGH, 3), (HIGH + one(), 6_553_600), (MOST - Natural::from(1 << 23), 3_276_800)]
+        {
             let cut = number / divisor;
             assert_eq!(number.div_ceil(divisor), cut + one(), "{number:?} over {divisor}");
             assert!(cut * divisor < number && number - cut * divisor < Natural::from(divisor), "{number:?} over {divisor}");

@@ -98,7 +98,7 @@ pub fn cdt(random: &mut Random) -> Vec<u64> {
         6 => (0..10).map(|_| random.pick(&[[0, 0], [high, high], [BOUND - 1, BOUND - 1]])).collect(),
         _ => (0..10).map(|_| [random.word() % BOUND, random.word() % BOUND]).collect(),
     };
-    thresholds.sort();
+    thresholds.sort_unstable();
     thresholds.concat()
 }
 

@@ -74,7 +74,7 @@ pub fn challenge(random: &mut Random, degree: usize) -> Vec<u32> {
             _ => rest.remove(random.below(rest.len())),
         })
         .collect();
-    challenge.sort();
+    challenge.sort_unstable();
     challenge
 }
 

@@ -136,7 +136,9 @@ fn change(random: &mut Random, history: &mut History, difference: Difference) {
         (Difference::CallMore, _) => history.push((degree, event(random, degree, ends_drawn(history)))),
         (Difference::Degree, _) => {
             let other = random.pick(&calls::DEGREES);
-            history.iter_mut().for_each(|(degree, _)| *degree = other);
+            for (degree, _) in history.iter_mut() {
+                *degree = other;
+            }
         }
         (Difference::Kind, Some((_, event @ Event::Draw { .. }))) => {
             *event = Event::Respond { challenge: challenge(random, degree), bit: random.one_in(2) };

@@ -1,0 +1,22 @@
+//! The calls that own their memory.
+
+mod draw;
+mod respond;
+
+use bliss_box::{Noise, OwnedDraw, Secret, Session, CDT, POLYNOMIAL};
+
+use crate::{LIMIT, N};
+
+pub const KEY: [i32; 8] = [1, 2, 3, 4, -1, 0, 7, -7];
+
+/// Words that accept every sample, of sizes 0 to 255 and both signs.
+fn accepting_words() -> Vec<u64> {
+    (0..LIMIT as u64).flat_map(|t| [0, 0, 257 * (t + 1), 0]).collect()
+}
+
+pub fn noise() -> Noise {
+    match Session::open(N).unwrap().draw_owned(LIMIT, &CDT, &POLYNOMIAL, Secret::from(accepting_words())) {
+        Ok(OwnedDraw::Full(noise)) => noise,
+        other => panic!("{other:?}"),
+    }
+}

@@ -1,0 +1,43 @@
+//! The response with memory of its own.
+
+use bliss_box::{respond_list_length, sample_count};
+use bliss_box::{CallError, Noise, Outcome, Refusal, Secret, POLYNOMIAL, RESPOND_WORDS};
+
+use super::{noise, KEY};
+use crate::N;
+
+#[test]
+fn an_owned_response_is_the_lent_one() {
+    for (words, bit) in [([0; RESPOND_WORDS], true), ([0, u64::MAX, 0], false)] {
+        let noise = noise();
+        let mut y = noise.samples().to_vec();
+        let (mut z, mut list) = ([5; sample_count(N)], [9; respond_list_length(N, 2)]);
+        let lent = noise.discard().respond(&[0, 3], &POLYNOMIAL, &words, &KEY, &mut y, &mut z, &mut list);
+        let owned = self::noise().respond(&[0, 3], &POLYNOMIAL, Secret::from(words.to_vec()), &KEY).unwrap();
+        assert_eq!(lent.answer, Ok(Outcome { bit, entries: respond_list_length(N, 2) }));
+        assert_eq!(owned.session, lent.session);
+        assert_eq!(owned.z, bit.then(|| z.to_vec()));
+        assert_eq!(owned.list, list);
+    }
+}
+
+#[test]
+fn a_refused_response_hands_the_noise_back() {
+    let respond = |noise: Noise, challenge: &[u32]| noise.respond(challenge, &POLYNOMIAL, Secret::zeroed(RESPOND_WORDS), &KEY);
+    let expected = respond(noise(), &[0, 3]).unwrap().z;
+    let mut unused = noise();
+    let samples = unused.samples().to_vec();
+    for challenge in [&[4][..], &[0; 65], &[]] {
+        unused = match respond(unused, challenge) {
+            Err(error @ CallError::Refused(Refusal::Challenge, _)) => {
+                assert_eq!(error.to_string(), Refusal::Challenge.to_string());
+                let CallError::Refused(_, noise) = error else { unreachable!() };
+                noise
+            }
+            other => panic!("{other:?}"),
+        };
+        assert_eq!(unused.samples(), samples);
+        assert_eq!(unused.list(), noise().list());
+    }
+    assert_eq!(respond(unused, &[0, 3]).unwrap().z, expected);
+}

@@ -1,0 +1,115 @@
+//! The response with memory that the host lends.
+
+use bliss_box::{challenge_limit, respond_list_length, sample_count};
+use bliss_box::{Outcome, Refusal, Responded, Session, POLYNOMIAL, RESPOND_WORDS};
+
+use crate::draw::{draw, drawn_session};
+use crate::N;
+
+/// Responds with words of 0, which reject nothing that may pass, y of all zero before, z of all fives and a list of all nines.
+fn respond(session: Session, challenge: &[u32], key: &[i32]) -> (Responded, Vec<i32>, Vec<u32>) {
+    let mut y = vec![0; sample_count(N)];
+    let mut z = vec![5; sample_count(N)];
+    let mut list = vec![9; respond_list_length(N, challenge.len())];
+    let responded = session.respond(challenge, &POLYNOMIAL, &[0; RESPOND_WORDS], key, &mut y, &mut z, &mut list);
+    assert_eq!(y, [0; 8]);
+    (responded, z, list)
+}
+
+#[test]
+fn an_accepted_response_clears_drawn() {
+    let (responded, z, list) = respond(drawn_session(), &[1], &[1, 2, 3, 4, 0, 0, 0, 7]);
+    assert_eq!(responded.answer, Ok(Outcome { bit: true, entries: respond_list_length(N, 1) }));
+    assert!(!responded.session.is_drawn());
+    assert_eq!(responded.session.degree(), N);
+    assert_eq!(z, [-4, 1, 2, 3, -7, 0, 0, 0]);
+    assert_eq!(list[..5], [(7 << 24) + 4, (8 << 24) + 3, 8 << 24, (8 << 24) + 1, (8 << 24) + 2]);
+    assert_eq!(list.last(), Some(&((9 << 24) + 1)));
+
+    let (refused, ..) = respond(responded.session, &[1], &[0; 8]);
+    assert_eq!(refused.answer, Err(Refusal::NotDrawn));
+    assert!(draw(refused.session, 0).0.session.is_drawn());
+}
+
+#[test]
+fn a_rejected_response_leaves_nothing() {
+    // Word 1 of all ones is above e(N1), unless A is 46,225 or more.
+    let mut y = [3; sample_count(N)];
+    let mut z = [5; sample_count(N)];
+    let mut list = [9; respond_list_length(N, 2)];
+    let words = [0, u64::MAX, 0];
+    let rejected = drawn_session().respond(&[0, 3], &POLYNOMIAL, &words, &[1; 8], &mut y, &mut z, &mut list);
+    assert_eq!(rejected.answer, Ok(Outcome { bit: false, entries: respond_list_length(N, 2) }));
+    assert!(!rejected.session.is_drawn());
+    assert_eq!((y, z), ([0; 8], [0; 8]));
+    assert_eq!(list.last(), Some(&(9 << 24)));
+}
+
+#[test]
+fn a_response_after_a_spent_draw_is_refused() {
+    let (spent, ..) = draw(drawn_session(), u64::MAX);
+    let (refused, z, list) = respond(spent.session, &[1], &[1; 8]);
+    assert_eq!(refused.answer, Err(Refusal::NotDrawn));
+    assert_eq!(z, [5; 8]);
+    assert_eq!(list, [9; respond_list_length(N, 1)]);
+}
+
+#[test]
+fn the_known_products_hold() {
+    let z = |challenge: &[u32]| respond(drawn_session(), challenge, &[1, 2, 3, 4, 0, 0, 0, 0]).1;
+    assert_eq!(z(&[1])[..4], [-4, 1, 2, 3]);
+    assert_eq!(z(&[0, 3])[..4], [-1, -1, -1, 5]);
+}
+
+#[test]
+fn a_refused_response_hands_the_session_back() {
+    let (refused, z, list) = respond(drawn_session(), &[2, 2], &[0; 8]);
+    assert_eq!(refused.answer, Err(Refusal::Challenge));
+    assert!(refused.session.is_drawn());
+    assert_eq!(z, [5; 8]);
+    assert_eq!(list, [9; respond_list_length(N, 2)]);
+
+    let (served, ..) = respond(refused.session, &[2], &[0; 8]);
+    assert_eq!(served.answer, Ok(Outcome { bit: true, entries: respond_list_length(N, 1) }));
+}
+
+#[test]
+fn each_refusal_of_a_response_is_typed() {
+    let mut damaged = POLYNOMIAL;
+    damaged[19] = 38;
+    let refusal = |polynomial: &[u64], challenge: &[u32], words, list, key: i32, y: i32| {
+        let words = vec![0; words];
+        let mut list = vec![0; list];
+        let mut z = [0; 8];
+        drawn_session().respond(challenge, polynomial, &words, &[key; 8], &mut [y; 8], &mut z, &mut list).answer.unwrap_err()
+    };
+    let (words, entries) = (RESPOND_WORDS, respond_list_length(N, 1));
+    assert_eq!(refusal(&POLYNOMIAL[..20], &[1], words, entries, 7, 2815), Refusal::Lengths);
+    assert_eq!(refusal(&damaged, &[1], words, entries, 7, 2815), Refusal::Polynomial);
+    assert_eq!(refusal(&POLYNOMIAL, &[4], words, entries, 7, 2815), Refusal::Challenge);
+    assert_eq!(refusal(&POLYNOMIAL, &[1], words - 1, entries, 7, 2815), Refusal::Words);
+    assert_eq!(refusal(&POLYNOMIAL, &[1], words, entries - 1, 7, 2815), Refusal::List);
+    assert_eq!(refusal(&POLYNOMIAL, &[1], words, entries, 8, 2815), Refusal::Key);
+    assert_eq!(refusal(&POLYNOMIAL, &[1], words, entries, -7, -2816), Refusal::Y);
+}
+
+#[test]
+fn empty_slices_are_refused_and_not_read() {
+    let empty = drawn_session().respond(&[], &[], &[], &[], &mut [], &mut [], &mut []);
+    assert_eq!(empty.answer, Err(Refusal::Lengths));
+    let respond = |session: Session, challenge: &[u32], words: &[u64]| {
+        session.respond(challenge, &POLYNOMIAL, words, &[0; 8], &mut [0; 8], &mut [0; 8], &mut [])
+    };
+    let empty = respond(empty.session, &[], &[]);
+    assert_eq!(empty.answer, Err(Refusal::Challenge));
+    let empty = respond(empty.session, &[1], &[]);
+    assert_eq!(empty.answer, Err(Refusal::Words));
+    let empty = respond(empty.session, &[1], &[0; RESPOND_WORDS]);
+    assert_eq!(empty.answer, Err(Refusal::List));
+    assert!(empty.session.is_drawn());
+}
+
+#[test]
+fn the_lengths_of_a_response_are_those_of_document_01() {
+    assert_eq!([challenge_limit(4), challenge_limit(1024), RESPOND_WORDS, respond_list_length(4, 1)], [4, 64, 3, 55]);
+}
