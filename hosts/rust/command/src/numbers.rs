@@ -3,8 +3,10 @@
 use std::num::{IntErrorKind, ParseIntError};
 use std::str::FromStr;
 
+use bliss_box::DefaultIsZeroes;
+
 /// A type of the numbers that a file or an option holds.
-pub trait Whole: FromStr<Err = ParseIntError> + Copy + Default {
+pub trait Whole: FromStr<Err = ParseIntError> + DefaultIsZeroes {
     const LEAST: i128;
     const MOST: i128;
 }
