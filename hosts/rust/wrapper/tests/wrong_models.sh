@@ -15,7 +15,7 @@ mkdir -p "$scratch/hosts/rust"
 cp -R hosts/rust/Cargo.toml hosts/rust/wrapper hosts/rust/command "$scratch/hosts/rust"
 
 # Many builds that differ little, and short runs.
-export BLISS_RUST="$scratch/hosts/rust" CARGO_TARGET_DIR="$scratch/target" BLISS_CALLS=2000 BLISS_SEED=1
+export BLISS_RUST="$scratch/hosts/rust" BLISS_CALLS=2000 BLISS_SEED=1
 export CARGO_PROFILE_TEST_OPT_LEVEL=0 CARGO_PROFILE_TEST_DEBUG=0 CARGO_INCREMENTAL=1 RUST_BACKTRACE=0
 count=0
 unnoticed=0
