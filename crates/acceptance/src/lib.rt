@@ -8,7 +8,7 @@ ghost use Rattle.exponential.specs.Exponential.{polynomial, expScaled, limit};
 ghost use Rattle.acceptance.specs.Acceptance.{coshPasses, allPass, acceptsBy, acceptanceEntries};
 
 // The most that A may be.
-const SQUARES_LIMIT: u64 = 46225;
+pub const SQUARES_LIMIT: u64 = 46225;
 
 // The most that Z may be.
 const NORM_LIMIT: u64 = 165688384;

@@ -4,7 +4,9 @@ ghost use lib.ListN.{length};
 ghost use Rattle.read_list.specs.Entries.{filledPart};
 ghost use Rattle.exponential.specs.Exponential.{expOrRefusal};
 ghost use Rattle.session.specs.Calls.{opened, drawOf, afterDraw, drawLeft, respondOf, afterRespond, respondLeft};
+ghost use Rattle.key_check.specs.KeyCheck.{keyAnswer};
 ghost use Rattle.bliss_box.specs.Version.{version};
+use key_check::KeyCheck;
 use session::Drawn;
 use session::Opened;
 use session::Responded;
@@ -15,7 +17,7 @@ use session::Session;
 pub extern "C" fn bliss_version() -> u32
     ensures { λ r. ⌜ r ≡ version ⌝ }
 {
-    200
+    300
 }
 
 // Opens a session of degree n.
@@ -79,4 +81,12 @@ pub extern "C" fn bliss_exponential(n: u64) -> u64
     ensures { λ r. ⌜ r ≡ expOrRefusal n ⌝ }
 {
     exponential::exp_or_refusal(n)
+}
+
+// The key check: whether no challenge of just so many positions has an A over its limit. Nothing that is lent is written.
+#[no_mangle]
+pub extern "C" fn bliss_check_key(n: usize, key: &[i32], count: usize) -> KeyCheck
+    ensures { λ r. ⌜ r ≡ keyAnswer n (now (key .entry)) count ⌝ }
+{
+    key_check::check_key(n, key, count)
 }

@@ -1,9 +1,16 @@
 // What a challenge is. It is public, and its tests may branch.
 ghost use mathlib.Core.Path.{_≡_};
-ghost use Rattle.challenge.specs.Challenge.{positionsBelow, ascends, arePositions, isChallenge};
+ghost use Rattle.challenge.specs.Challenge.{lengthFits, positionsBelow, ascends, arePositions, isChallenge};
 
 // The most positions of a challenge, at any degree.
 const MOST_POSITIONS: usize = 64;
+
+// Whether a challenge of degree n may have so many positions: there are not too many.
+pub fn length_fits(n: usize, count: usize) -> bool
+    ensures { λ r. ⌜ r ≡ lengthFits n count ⌝ }
+{
+    (count <= MOST_POSITIONS) & (count <= n)
+}
 
 // Whether every position is below n.
 fn positions_below(n: usize, challenge: &[u32]) -> bool
@@ -37,8 +44,7 @@ fn ascending(challenge: &[u32]) -> bool
 fn are_positions(n: usize, challenge: &[u32]) -> bool
     ensures { λ r. ⌜ r ≡ arePositions n (now (challenge .entry)) ⌝ }
 {
-    let length = challenge.len();
-    if (MOST_POSITIONS < length) | (n < length) {
+    if !length_fits(n, challenge.len()) {
         return false;
     }
     let below = positions_below(n, challenge);

@@ -6,3 +6,4 @@ pub mod ProductTells
 pub mod Agreement
 pub mod Modulo
 pub mod InOrder
+pub mod Rotations

@@ -27,11 +27,11 @@ module _ (key : List ℤ) (n base k c : ℕ) where
   shifted-behind h = rw (le-leb c k (omega arith)) rw (le-ltb k (c + n) h)
 
 module _ (key : List ℤ) (n base i c : ℕ) where
-  term-direct : c ≤ i → termAt key n base i c ≡ getD key (base + (i - c)) (pos 0)
+  pub term-direct : c ≤ i → termAt key n base i c ≡ getD key (base + (i - c)) (pos 0)
   unfolding termAt
   term-direct h = rw (le-leb c i h)
 
-  term-wrapped : i < c → termAt key n base i c ≡ negℤ (getD key (base + (i + n - c)) (pos 0))
+  pub term-wrapped : i < c → termAt key n base i c ≡ negℤ (getD key (base + (i + n - c)) (pos 0))
   unfolding termAt
   term-wrapped h = rw (lt-leb c i h)
 

@@ -3,8 +3,9 @@ use mathlib.Core.Path.{_≡_, refl, sym, _∙_}
 use mathlib.Core.Bool.{Bool, true, false, not, _&&_, _||_, and-eq-true-iff}
 use mathlib.Core.List.{List, [], _∷_}
 use Prim.Native.Nat.{ℕ}
-use lib.Dec.{leb, ltb}
-use borrow.Author.Tests.{not-true, not-false, ltb-true, ltb-false, lt-leb, le-leb}
+use native.Mathlib.Omega.{arith}
+use lib.Dec.{leb, ltb, eqb}
+use borrow.Author.Tests.{not-true, not-false, ltb-true, ltb-false, lt-leb, le-leb, eq-eqb, ne-eqb}
 
 -- ** One test
 
@@ -29,6 +30,14 @@ below-not-above a b = by (ltb a b) refl
     by : (t : Bool) → ltb a b ≡ t → t ≡ not (leb b a)
     by true e = rw (lt-leb b a (ltb-true a b e))
     by false e = rw (le-leb b a (ltb-false a b e))
+
+-- what code tests by `!= 0`, as the definitions have it: by `ltb`
+pub some-not-none : (count : ℕ) → not (eqb count 0) ≡ ltb 0 count
+some-not-none count = by (ltb 0 count) refl
+  where
+    by : (t : Bool) → ltb 0 count ≡ t → not (eqb count 0) ≡ t
+    by true e = rw (ne-eqb count 0 (λ z. omega (arith, z, ltb-true 0 count e)))
+    by false e = rw (eq-eqb count 0 (omega (arith, ltb-false 0 count e)))
 
 -- ** Two tests
 

@@ -42,6 +42,9 @@ fails-above a b = record { fails = λ e. leb-false a b e; holds = λ e above. le
 pub fails-from : (a b : ℕ) → FailsWhere (ltb a b) (b ≤ a)
 fails-from a b = record { fails = λ e. ltb-false a b e; holds = λ e from. let h = ltb-true a b e in omega arith }
 
+pub fails-empty : (count : ℕ) → FailsWhere (ltb 0 count) (count ≡ 0)
+fails-empty count = record { fails = λ e. let h = ltb-false 0 count e in omega arith; holds = λ e none. let h = ltb-true 0 count e in omega arith }
+
 -- both of two tests
 pub fails-either : {a b : Bool} {p q : Type 0} → FailsWhere a p → FailsWhere b q → FailsWhere (a && b) (p ⊎ q)
 fails-either {a = true} f g = record { fails = λ e. inr (g .fails e); holds = λ e. ⊎-elim (f .holds refl) (g .holds e) }

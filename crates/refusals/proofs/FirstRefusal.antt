@@ -16,7 +16,7 @@ use Rattle.checks.specs.Checks.{allBelow}
 use Rattle.checks.proofs.JoinedTests.{both-true}
 use Rattle.checks.proofs.AllBelow.{all-at}
 use Rattle.checks.proofs.RefusalTable.{FailsWhere, refuses, serves, fails-unequal, fails-above, fails-from, fails-either, fails-somewhere}
-use Rattle.checks.proofs.RefusalTable.{fails-no-degree}
+use Rattle.checks.proofs.RefusalTable.{fails-no-degree, fails-empty}
 use Rattle.exponential.specs.Exponential.{polynomialEntry, entriesFrom, polynomial, isPolynomial}
 use Rattle.exponential.proofs.Table.{table-at, polynomial-of, is-polynomial}
 use Rattle.base_sample.specs.BaseSample.{threshold, wordsSmall, neverFalls, isCdt}
@@ -56,7 +56,7 @@ module _ (table : List ℕ) (l : length table ≡ 21) where
       by e true f = absurd (false≢true (sym e ∙ sym (is-polynomial table (all-right f))))
       by e false f = fails-somewhere entryRight _ entry-tested 21 .fails f
 
-fails-outside : (bound : ℕ) (values : List ℤ) → FailsWhere (allWithin bound values) (Outside bound values)
+pub fails-outside : (bound : ℕ) (values : List ℤ) → FailsWhere (allWithin bound values) (Outside bound values)
 unfolding allWithin
 fails-outside bound values = record {
   fails = somewhere values;
@@ -77,14 +77,11 @@ fails-no-challenge : (n : ℕ) (challenge : List ℕ)
 unfolding isChallenge arePositions positionsBelow ascends
 fails-no-challenge n challenge =
     let count = length challenge in
-    fails-either fails-empty
+    fails-either (fails-empty count)
     (fails-either (fails-either (fails-above count 64) (fails-above count n))
     (fails-either
     (fails-somewhere _ _ (λ k. fails-from (getD challenge k 0) n) count)
     (fails-somewhere _ _ (λ k. fails-from (getD challenge k 0) (getD challenge (suc k) 0)) (count - 1))))
-  where
-    fails-empty : FailsWhere (ltb 0 (length challenge)) (length challenge ≡ 0)
-    fails-empty = let f = fails-from 0 (length challenge) in record { fails = λ e. let h = f .fails e in omega arith; holds = λ e none. f .holds e (omega arith) }
 
 -- ** The table
 

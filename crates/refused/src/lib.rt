@@ -35,3 +35,6 @@ pub const Y: u32 = 11;
 
 // N is above the exponential's limit.
 pub const EXPONENT: u32 = 12;
+
+// The final sum of the key check is over what A may be.
+pub const KEY_SUM: u32 = 13;

@@ -76,11 +76,14 @@ bit-by-tests e y sc words =
     let cd = and-eq-true-iff first cosh in (
       λ h. let p = ab .0 h in let q = bc .0 (p .1) in let r = cd .0 (q .1) in record {
         squares = leb-true _ _ (p .0);
-        norm = leb-true _ _ (q .0);
-        first-exponential = ltb-true _ _ (r .0);
-        second-exponential = ltb-true _ _ (r .1);
+        others = record {
+          norm = leb-true _ _ (q .0);
+          first-exponential = ltb-true _ _ (r .0);
+          second-exponential = ltb-true _ _ (r .1);
+        };
       },
-      λ t. ab .1 (le-leb _ _ (t .squares), bc .1 (le-leb _ _ (t .norm), cd .1 (lt-ltb _ _ (t .first-exponential), lt-ltb _ _ (t .second-exponential)))),
+      λ t. let o = t .others in
+          ab .1 (le-leb _ _ (t .squares), bc .1 (le-leb _ _ (o .norm), cd .1 (lt-ltb _ _ (o .first-exponential), lt-ltb _ _ (o .second-exponential)))),
     )
 
 -- ** The read list

@@ -30,12 +30,16 @@ ResponsePlusOrMinus =
 abbrev pub CoshPasses : (e third : ℕ) → Type 0
 CoshPasses e third = third % 2 ^ 62 * (2 ^ 62 + e * e / 2 ^ 62) < e * 2 ^ 63
 
--- what must hold of Sc, z and the second and third word for bit 1
-pub record AllTestsPass (e : ℕ → ℕ) (sc z : List ℤ) (second third : ℕ) : Type 0 where
-  pub squares : squareSum sc ≤ 46225
+-- what must hold of Sc, z and the second and third word for bit 1, beside that of A alone
+pub record OtherTestsPass (e : ℕ → ℕ) (sc z : List ℤ) (second third : ℕ) : Type 0 where
   pub norm : squareSum z ≤ 165688384
   pub first-exponential : second % 2 ^ 62 < e (46225 - squareSum sc)
   pub second-exponential : CoshPasses (e (min (2 * natAbs (innerProduct z sc)) 5534960)) third
+
+-- and all of it
+pub record AllTestsPass (e : ℕ → ℕ) (sc z : List ℤ) (second third : ℕ) : Type 0 where
+  pub squares : squareSum sc ≤ 46225
+  pub others : OtherTestsPass e sc z second third
 
 -- the bit is 1 exactly then
 abbrev pub BitByTests : Type 0

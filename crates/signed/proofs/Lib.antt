@@ -1,3 +1,5 @@
 pub mod Signs
 pub mod Filling
 pub mod Vectors
+pub mod Integers
+pub mod InnerProducts

@@ -75,7 +75,7 @@ pub fn all_within(values: &[i32], bound: u32) -> bool
 }
 
 // A value where it is kept, else 0.
-fn kept(value: i32, keep: bool) -> i32
+pub fn kept(value: i32, keep: bool) -> i32
     ensures { λ r. ⌜ r ≡ cond keep value (pos 0) ⌝ }
 {
     value * (keep as i32)

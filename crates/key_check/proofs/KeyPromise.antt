@@ -1,0 +1,134 @@
+-- For a key that passes, A of no challenge of just that length is over 46,225. Assumes nothing.
+use mathlib.Core.Path.{_≡_, refl, sym, ap, subst, _∙_}
+use mathlib.Core.Bool.{true, false, _&&_}
+use mathlib.Core.List.{List, [], _∷_}
+use Prim.Native.Nat.{ℕ, zero, suc, _+_, _-_, _≤_, _<_}
+use native.Mathlib.Omega.{arith}
+use lib.Dec.{ltb}
+use lib.ListN.{length, getD}
+use lib.IntN.{ℤ, pos, +ℤ-idl}
+use borrow.Author.Tests.{ltb-true, ne-eqb}
+use Rattle.signed.specs.Vectors.{squareSum}
+use Rattle.signed.proofs.Integers.{Le, le-same, le-is, le-then, le-sum, le-of-test, le-pos, size-of-le}
+use Rattle.checks.specs.Checks.{among}
+use Rattle.checks.proofs.JoinedTests.{both-true}
+use Rattle.checks.proofs.AllBelow.{all-at}
+use Rattle.checks.proofs.Lines.{numbered, testOf, passes}
+use Rattle.largest.specs.Largest.{sumAt, areDifferent}
+use Rattle.largest.proofs.LargestSum.{at-most, places-more}
+use Rattle.challenge.specs.Challenge.{lengthFits, positionsBelow, ascends, arePositions, isChallenge}
+use Rattle.challenge.proofs.Positions.{position-below}
+use Rattle.challenge_product.specs.Product.{product}
+use Rattle.response.specs.ByRule.{AllTestsPass}
+use Rattle.session.proofs.Calls.{respond-passed}
+use Rattle.session.proofs.ByRule.{served-respond-by-rule}
+use Rattle.key_check.specs.KeyCheck.{table, rowSum, finalSum, keyTests, keyRefusal, keyAnswer}
+use Rattle.key_check.specs.KeyPromise.{NeverNegative, KeyPromise, NeverRejectedForA}
+use Rattle.key_check.proofs.Table.{squares-are}
+
+-- ** A is at most the final sum
+
+sum-le : (f g : ℕ → ℤ) (places : List ℕ) → ((i : ℕ) → Le (f i) (g i)) → Le (sumAt f places) (sumAt g places)
+unfolding sumAt
+sum-le f g [] h = le-same (pos 0)
+sum-le f g (p ∷ places) h = le-sum (h p) (sum-le f g places h)
+
+squares-at-most : (key : List ℤ) (n : ℕ) (places : List ℕ) → areDifferent n places ≡ true
+    → Le (pos (squareSum (product key n places))) (finalSum key n (length places))
+unfolding rowSum finalSum
+squares-at-most key n places d =
+    le-then
+    (le-is (squares-are key n places))
+    (le-then
+    (sum-le (λ (i : ℕ). sumAt (table key n i) places) (rowSum key n (length places)) places (λ i. at-most (table key n i) n places d))
+    (at-most (rowSum key n (length places)) n places d))
+
+-- ** The final sum is never negative: it is at least A of some places
+
+-- count - 1, .. 0
+unfoldable down : ℕ → List ℕ
+down zero = []
+down (suc count) = count ∷ down count
+
+length-down : (count : ℕ) → length (down count) ≡ count
+unfolding down
+length-down zero = refl
+length-down (suc count) = ap suc (length-down count)
+
+not-among-down : (count q : ℕ) → count ≤ q → among (down count) q ≡ false
+unfolding down among
+not-among-down zero q h = refl
+not-among-down (suc count) q h = rw (ne-eqb q count (λ e. omega (arith, e))) (not-among-down count q (omega arith))
+
+different-down : (n count : ℕ) → count ≤ n → areDifferent n (down count) ≡ true
+unfolding down areDifferent
+different-down n zero h = refl
+different-down n (suc count) h =
+    places-more n count (down count) (omega arith) (not-among-down count count (omega arith)) (different-down n count (omega arith))
+
+from-zero : (m : ℕ) → Le (pos 0) (pos m)
+from-zero m = record { more = m; is = sym (+ℤ-idl (pos m)) }
+
+pub never-negative : NeverNegative
+never-negative key n count h =
+    let places = down count in
+    size-of-le (finalSum key n count)
+    (subst (λ (k : ℕ). Le (pos 0) (finalSum key n k)) (length-down count)
+    (le-then (from-zero (squareSum (product key n places))) (squares-at-most key n places (different-down n count h))))
+
+-- ** The positions of a challenge are different places
+
+abbrev Ascends : List ℕ → Type 0
+Ascends challenge = (k : ℕ) → suc k < length challenge → getD challenge k 0 < getD challenge (suc k) 0
+
+abbrev Below : ℕ → List ℕ → Type 0
+Below n challenge = (k : ℕ) → k < length challenge → getD challenge k 0 < n
+
+-- what is below the first of ascending positions is none of them
+not-among-later : (q c : ℕ) (challenge : List ℕ) → q < c → Ascends (c ∷ challenge) → among (c ∷ challenge) q ≡ false
+unfolding among
+not-among-later q c [] h a = rw (ne-eqb q c (λ e. omega (arith, e)))
+not-among-later q c (d ∷ challenge) h a =
+    rw (ne-eqb q c (λ e. omega (arith, e)))
+    (not-among-later q d challenge (omega (arith, a 0 (omega arith))) (λ k g. a (suc k) (omega arith)))
+
+not-among-rest : (c : ℕ) (challenge : List ℕ) → Ascends (c ∷ challenge) → among challenge c ≡ false
+unfolding among
+not-among-rest c [] a = refl
+not-among-rest c (d ∷ challenge) a = not-among-later c d challenge (a 0 (omega arith)) (λ k g. a (suc k) (omega arith))
+
+different-of : (n : ℕ) (challenge : List ℕ) → Below n challenge → Ascends challenge → areDifferent n challenge ≡ true
+unfolding areDifferent
+different-of n [] b a = refl
+different-of n (c ∷ challenge) b a =
+    places-more n c challenge (b 0 (omega arith)) (not-among-rest c challenge a)
+    (different-of n challenge (λ k h. b (suc k) (omega arith)) (λ k h. a (suc k) (omega arith)))
+
+challenge-different : (n : ℕ) (challenge : List ℕ) → isChallenge n challenge ≡ true → areDifferent n challenge ≡ true
+unfolding isChallenge arePositions ascends
+challenge-different n challenge h =
+    let p = both-true (ltb 0 (length challenge)) (arePositions n challenge) h in
+    let q = both-true (lengthFits n (length challenge)) (positionsBelow n challenge && ascends challenge) (p .1) in
+    let r = both-true (positionsBelow n challenge) (ascends challenge) (q .1) in
+    different-of n challenge (λ k g. position-below n challenge k (r .0) g)
+    (λ k g. ltb-true (getD challenge k 0) (getD challenge (suc k) 0)
+    (all-at (λ (j : ℕ). ltb (getD challenge j 0) (getD challenge (suc j) 0)) k (length challenge - 1) (omega arith) (r .1)))
+
+-- ** The promise
+
+-- the final sum of a key that passes is within the limit of A
+within-limit : (n : ℕ) (key : List ℤ) (count : ℕ) → keyAnswer n key count .refusal ≡ 0 → Le (finalSum key n count) (pos 46225)
+unfolding keyAnswer keyRefusal testOf numbered
+within-limit n key count e = le-of-test (finalSum key n count) (pos 46225) (passes 13 (keyTests n key count) refl e)
+
+pub key-promise : KeyPromise
+key-promise n key count e challenge c l =
+    let a = squareSum (product key n challenge) in
+    let most = squares-at-most key n challenge (challenge-different n challenge c) in
+    le-pos a 46225 (le-then (subst (λ (k : ℕ). Le (pos a) (finalSum key n k)) l most) (within-limit n key count e))
+
+pub never-rejected-for-A : NeverRejectedForA
+never-rejected-for-A s r passed h z p =
+    let by-rule = served-respond-by-rule s r h .bit z p in
+    let a = key-promise (s .degree) (r .key) (length (r .challenge)) passed (r .challenge) (respond-passed s r h .is-challenge) refl in
+    ((λ e. by-rule .0 e .others), (λ others. by-rule .1 (record { squares = a; others = others })))

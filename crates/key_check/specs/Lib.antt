@@ -1,0 +1,4 @@
+pub mod KeyCheck
+pub mod FirstRefusal
+pub mod KeyPromise
+pub mod Rows

@@ -1,0 +1,5 @@
+pub mod Falling
+pub mod LargestSum
+pub mod Threshold
+pub mod Excess
+pub mod Bracket

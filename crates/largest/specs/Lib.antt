@@ -1,0 +1,2 @@
+pub mod Largest
+pub mod Threshold

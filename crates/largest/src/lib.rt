@@ -1,0 +1,68 @@
+// The sum of the k largest of some values, with no branch on them: the k-th largest is found bit by bit, by counting, and what the others
+// are over it is added.
+ghost use mathlib.Core.Path.{_≡_};
+ghost use Prim.Native.Nat.{_≤_, _<_};
+ghost use lib.IntN.{pos, natAbs};
+ghost use Rattle.largest.specs.Largest.{largestSum};
+ghost use Rattle.largest.specs.Threshold.{valueAt, InRange, sumOver, reaches, excess, IsKth};
+
+// Values are from -2^23 to 2^23 - 1.
+const HALF_RANGE: i32 = 8388608;
+
+const RANGE: u32 = 16777216;
+
+// How many of values[..n] are at least t.
+fn count_from(values: &[i32], n: usize, t: i32) -> u32
+    requires { ⌜ InRange (now values) n ⌝ }
+    ensures { λ r. ⌜ r ≡ sumOver (reaches t) (valueAt (now (values .entry))) n ⌝ }
+{
+    let mut count: u32 = 0;
+    let mut j: usize = 0;
+    while j < n {
+        let value = values[j];
+        count += (t <= value) as u32;
+        j += 1;
+    }
+    count
+}
+
+// By how much those of values[..n] that are over t are over it, in sum.
+fn excess_over(values: &[i32], n: usize, t: i32) -> i64
+    requires { ⌜ InRange (now values) n × (natAbs t ≤ 33554432) ⌝ }
+    ensures { λ r. ⌜ r ≡ pos (sumOver (excess t) (valueAt (now (values .entry))) n) ⌝ }
+{
+    let mut sum: i64 = 0;
+    let mut j: usize = 0;
+    while j < n {
+        let over = values[j] - t;
+        sum += signed::kept(over, 0 <= over) as i64;
+        j += 1;
+    }
+    sum
+}
+
+// The k-th largest of values[..n]. It is in t .. t + width - 1, and the upper half is taken where k values reach it.
+fn kth_largest(values: &[i32], n: usize, k: u32) -> i32
+    requires { ⌜ InRange (now values) n × (0 < k) × (k ≤ n) ⌝ }
+    ensures { λ r. ⌜ IsKth (valueAt (now (values .entry))) n k r × (natAbs r ≤ 33554432) ⌝ }
+{
+    let mut t: i32 = 0 - HALF_RANGE;
+    let mut width: u32 = RANGE;
+    while 1 < width {
+        width = width >> 1;
+        let half = width as i32;
+        let many = count_from(values, n, t + half);
+        t += signed::kept(half, k <= many);
+    }
+    t
+}
+
+// The sum of the k largest of values[..n].
+pub fn largest_sum(values: &[i32], n: usize, k: usize) -> i32
+    requires { ⌜ InRange (now values) n × (0 < k) × (k ≤ n) × (k ≤ 64) ⌝ }
+    ensures { λ r. ⌜ r ≡ largestSum (valueAt (now (values .entry))) n k ⌝ }
+{
+    let t = kth_largest(values, n, k as u32);
+    let over = excess_over(values, n, t);
+    ((k as i64) * (t as i64) + over) as i32
+}
