@@ -5,6 +5,7 @@ use Rattle.signed.specs.Vectors.{allWithin, squareSum, innerProduct}
 use Rattle.checks.specs.Checks.{among, isDegree, allBelow, firstRefusal}
 use Rattle.exponential.specs.Exponential.{factorial, entriesFrom as polynomialFrom, polynomial, sameWords, isPolynomial}
 use Rattle.exponential.specs.Exponential.{reciprocal, scaled, evaluate, squared, squarings, expScaled, expWith, exp, expOrRefusal}
+use Rattle.largest.specs.Largest.{insert, falling, total, largestSum}
 use Rattle.base_sample.specs.BaseSample.{wordsSmall, neverFalls, isCdt, atOrBelow, baseSample}
 use Rattle.known_points.specs.EvenThresholds.{thresholdsFrom, evenThresholds}
 use Rattle.known_points.specs.DefaultCdt.{cdt215}
@@ -17,6 +18,7 @@ use Rattle.response.specs.Response.{responseOf, responseZ, measuresOf, response
 use Rattle.refusals.specs.Refusals.{openRefusal, drawRefusal, noiseRefusal, respondRefusal}
 use Rattle.session.specs.Calls.{opened, refusalOfDraw, bitsOfDraw, drawRefused, drawServed, drawLeft}
 use Rattle.session.specs.Calls.{refusalOfRespond, bitOfRespond, zOfRespond, respondRefused, respondServed, respondLeft}
+use Rattle.key_check.specs.KeyCheck.{rotation, table, rowSum, finalSum, keyRefusal, keyAnswer}
 use Rattle.histories.specs.Histories.{leftBy, eventOf}
 
 -- the polynomial table, the CDT table of the known points, and the one that hosts lend
@@ -47,6 +49,11 @@ sums = tt
 unfoldable pub responses : Unit {0}
 unfolding sums product outputsFrom outputAt termAt responseZ responseOf responseBit measuresOf acceptsBy allPass coshPasses
 responses = tt
+
+-- the key check
+unfoldable pub keyChecks : Unit {0}
+unfolding responses insert falling total largestSum rotation table rowSum finalSum keyRefusal keyAnswer
+keyChecks = tt
 
 -- read lists
 unfoldable pub lists : Unit {0}

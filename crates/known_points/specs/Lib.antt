@@ -7,5 +7,6 @@ pub mod OpeningRefusals
 pub mod DrawRefusals
 pub mod DefaultCdt
 pub mod RespondRefusals
+pub mod KeyNumbers
 pub mod ReadLists
 pub mod Demand3Instance
