@@ -8,11 +8,7 @@ use lib.Dec.{leb, eqb}
 use lib.IntN.{ℤ, pos, natAbs}
 use lib.Signed.{leZ}
 use borrow.Author.Tests.{eq-eqb, ne-eqb}
-use Rattle.key_check.specs.declared.KeyCheck.{KeyCheck}
-use Rattle.key_check.specs.KeyCheck.{finalSum, keyRefusal, keyAnswer}
-
-abbrev pub answer : (refusal sum : ℕ) → KeyCheck
-answer refusal sum = record { refusal = refusal; sum = sum }
+use Rattle.key_check.specs.KeyCheck.{finalSum, keyRefusal, answer, keyAnswer}
 
 module _ (n : ℕ) (key : List ℤ) (count : ℕ) where
   pub answer-refused : {refusal : ℕ} → 0 < refusal → refusal ≡ keyRefusal n key count → answer refusal 0 ≡ keyAnswer n key count

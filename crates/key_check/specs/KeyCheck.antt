@@ -51,9 +51,9 @@ keyTests n key count =
 unfoldable pub keyRefusal : (n : ℕ) (key : List ℤ) (count : ℕ) → ℕ
 keyRefusal n key count = firstRefusal (keyTests n key count)
 
+abbrev pub answer : (refusal sum : ℕ) → KeyCheck
+answer refusal sum = record { refusal = refusal; sum = sum }
+
 -- a refusal and 0, or 0 and the final sum, which is never negative
 unfoldable pub keyAnswer : (n : ℕ) (key : List ℤ) (count : ℕ) → KeyCheck
-keyAnswer n key count = record {
-  refusal = keyRefusal n key count;
-  sum = cond (eqb (keyRefusal n key count) 0) (natAbs (finalSum key n count)) 0;
-}
+keyAnswer n key count = answer (keyRefusal n key count) (cond (eqb (keyRefusal n key count) 0) (natAbs (finalSum key n count)) 0)

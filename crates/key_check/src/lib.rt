@@ -7,7 +7,7 @@ ghost use lib.ListN.{length, getD, replicate};
 ghost use lib.IntN.{pos, natAbs};
 ghost use Rattle.signed.specs.Vectors.{allWithin};
 ghost use Rattle.challenge_product.specs.Product.{keyBound};
-ghost use Rattle.key_check.specs.KeyCheck.{table, finalSum, isLength, keyAnswer};
+ghost use Rattle.key_check.specs.KeyCheck.{finalSum, isLength, answer, keyAnswer};
 ghost use Rattle.key_check.specs.Rows.{Keyed, sumTo, productAt, terms, entryBound, HoldsRow, MovedOn};
 
 // The sum of products of key[a..a + count] and key[b..b + count], place by place.
@@ -104,40 +104,35 @@ pub struct KeyCheck {
     pub sum: u32,
 }
 
+// The answer to a key that is refused.
+fn refuse(refusal: u32) -> KeyCheck
+    ensures { λ r. ⌜ r ≡ answer refusal 0 ⌝ }
+{
+    KeyCheck {
+        refusal: refusal,
+        sum: 0,
+    }
+}
+
 // The key check, for challenges of just `count` positions.
 pub fn check_key(n: usize, key: &[i32], count: usize) -> KeyCheck
     ensures { λ r. ⌜ r ≡ keyAnswer n (now (key .entry)) count ⌝ }
 {
     if !checks::is_degree(n) {
-        return KeyCheck {
-            refusal: refused::DEGREE,
-            sum: 0,
-        };
+        return refuse(refused::DEGREE);
     }
     if key.len() != 2 * n {
-        return KeyCheck {
-            refusal: refused::LENGTHS,
-            sum: 0,
-        };
+        return refuse(refused::LENGTHS);
     }
     if !is_length(n, count) {
-        return KeyCheck {
-            refusal: refused::CHALLENGE,
-            sum: 0,
-        };
+        return refuse(refused::CHALLENGE);
     }
     if !signed::all_within(key, challenge_product::KEY_BOUND) {
-        return KeyCheck {
-            refusal: refused::KEY,
-            sum: 0,
-        };
+        return refuse(refused::KEY);
     }
     let sum = final_sum(key, n, count);
     if acceptance::SQUARES_LIMIT < sum as u64 {
-        return KeyCheck {
-            refusal: refused::KEY_SUM,
-            sum: 0,
-        };
+        return refuse(refused::KEY_SUM);
     }
     KeyCheck {
         refusal: 0,

@@ -7,8 +7,7 @@ use Prim.Native.Nat.{ℕ, _+_}
 use lib.IntN.{ℤ, pos, negsuc}
 use lib.ListN.{getD, replicate}
 use Rattle.largest.specs.Largest.{largestSum}
-use Rattle.key_check.specs.declared.KeyCheck.{KeyCheck}
-use Rattle.key_check.specs.KeyCheck.{rotation, table, rowSum, finalSum, isLength, keyAnswer}
+use Rattle.key_check.specs.KeyCheck.{rotation, table, rowSum, finalSum, isLength, answer, keyAnswer}
 
 -- 5, -9, 7, 7, -1
 abbrev pub five : ℕ → ℤ
@@ -36,10 +35,6 @@ abbrev pub overLimit : List ℤ
 overLimit =
     pos 4 ∷ pos 5 ∷ pos 3 ∷ pos 5 ∷ pos 7 ∷ negsuc 1 ∷ pos 7 ∷ pos 4 ∷ pos 6 ∷ pos 7 ∷ negsuc 3 ∷ pos 3 ∷ pos 3 ∷ pos 4 ∷ pos 7 ∷ pos 5
     ∷ pos 5 ∷ pos 6 ∷ pos 7 ∷ pos 6 ∷ negsuc 1 ∷ pos 6 ∷ pos 6 ∷ pos 7 ∷ pos 3 ∷ negsuc 2 ∷ pos 5 ∷ pos 7 ∷ pos 3 ∷ pos 6 ∷ pos 1 ∷ pos 6 ∷ []
-
--- an answer
-abbrev pub answer : (refusal sum : ℕ) → KeyCheck
-answer refusal sum = record { refusal = refusal; sum = sum }
 
 pub record KeyNumbers : Type 0 where
   -- ** The largest

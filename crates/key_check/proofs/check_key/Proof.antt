@@ -49,9 +49,14 @@ from-1 : (c : tie.After-is-degree) → From 1 (start c)
 unfolding keyRefusal from
 from-1 c = record { told = refl }
 
+refuse-requires : tie.Need-refuse-requires
+refuse-requires c κs = search needs
+
 returns : tie.Need-returns
 unfolding from
-returns c = answer-refused _ _ _ (omega arith) (leaves (from-1 (c .before)) (fails (c .before .is-degree .ensures) (c .if1 .taken)))
+returns c =
+    let t = c .before in
+    c .refuse .ensures ∙ answer-refused _ _ _ (omega arith) (leaves (from-1 (t .before)) (fails (t .before .is-degree .ensures) (t .if1 .taken)))
 
 degree : (c : tie.Else1) → isDegree (behind-1 c .args .n) ≡ true
 degree c = holds (c .before .is-degree .ensures) (c .if1 .left)
@@ -68,9 +73,14 @@ from-2 c = goes-on (from-1 (c .before)) (degree c)
 mul-if2 : tie.Need-mul-if2
 mul-if2 c = omega (arith, range c .1)
 
+refuse-requires-2 : tie.Need-refuse-requires-2
+refuse-requires-2 c κs = search needs
+
 returns-2 : tie.Need-returns-2
 unfolding from
-returns-2 c = answer-refused _ _ _ (omega arith) (leaves (from-2 (c .before)) (ne-eqb _ _ (c .if2 .taken)))
+returns-2 c =
+    let t = c .before in
+    c .refuse2 .ensures ∙ answer-refused _ _ _ (omega arith) (leaves (from-2 (t .before)) (ne-eqb _ _ (t .if2 .taken)))
 
 -- ** Refusal 6
 
@@ -81,9 +91,15 @@ from-6 c = goes-on (from-2 (c .before)) (eq-eqb _ _ (c .if2 .left))
 is-length-requires : tie.Need-is-length-requires
 is-length-requires c κs = search needs
 
+refuse-requires-3 : tie.Need-refuse-requires-3
+refuse-requires-3 c κs = search needs
+
 returns-3 : tie.Need-returns-3
 unfolding from
-returns-3 c = answer-refused _ _ _ (omega arith) (leaves (from-6 (c .before .before)) (fails (c .before .is-length .ensures) (c .if3 .taken)))
+returns-3 c =
+    let t = c .before in
+    c .refuse3 .ensures
+    ∙ answer-refused _ _ _ (omega arith) (leaves (from-6 (t .before .before)) (fails (t .before .is-length .ensures) (t .if3 .taken)))
 
 right-length : (c : tie.Else3) → isLength (behind-6 c .args .n) (behind-6 c .args .count) ≡ true
 right-length c = holds (c .before .is-length .ensures) (c .if3 .left)
@@ -97,9 +113,15 @@ from-10 c = goes-on (from-6 (c .before .before)) (right-length c)
 all-within-requires : tie.Need-all-within-requires
 all-within-requires c κs = search needs
 
+refuse-requires-4 : tie.Need-refuse-requires-4
+refuse-requires-4 c κs = search needs
+
 returns-4 : tie.Need-returns-4
 unfolding from
-returns-4 c = answer-refused _ _ _ (omega arith) (leaves (from-10 (c .before .before)) (fails (c .before .all-within .ensures) (c .if4 .taken)))
+returns-4 c =
+    let t = c .before in
+    c .refuse4 .ensures
+    ∙ answer-refused _ _ _ (omega arith) (leaves (from-10 (t .before .before)) (fails (t .before .all-within .ensures) (t .if4 .taken)))
 
 small : (c : tie.Else4) → allWithin 7 (behind-10 c .args .key .now) ≡ true
 small c = holds (c .before .all-within .ensures) (c .if4 .left)
@@ -129,12 +151,17 @@ final-sum-requires c κs =
 cast-if5 : tie.Need-cast-if5
 cast-if5 c = search needs
 
+refuse-requires-5 : tie.Need-refuse-requires-5
+refuse-requires-5 c κs = search needs
+
 returns-5 : tie.Need-returns-5
 unfolding from
 returns-5 c =
-    let f = c .before .final-sum in
-    answer-refused _ _ _ (omega arith)
-    (leaves (from-13 (c .before .before)) (sum-tested _ _ _ (f .result) (f .ensures) ∙ lt-leb (f .result) 46225 (c .if5 .taken)))
+    let t = c .before in
+    let f = t .before .final-sum in
+    c .refuse5 .ensures
+    ∙ answer-refused _ _ _ (omega arith)
+    (leaves (from-13 (t .before .before)) (sum-tested _ _ _ (f .result) (f .ensures) ∙ lt-leb (f .result) 46225 (t .if5 .taken)))
 
 returns-6 : tie.Need-returns-6
 unfolding from firstRefusal
@@ -148,14 +175,19 @@ check-key-spec =
     tie.close
     (tie.spec
     is-degree-requires
+    refuse-requires
     returns
     mul-if2
+    refuse-requires-2
     returns-2
     is-length-requires
+    refuse-requires-3
     returns-3
     all-within-requires
+    refuse-requires-4
     returns-4
     final-sum-requires
     cast-if5
+    refuse-requires-5
     returns-5
     returns-6)
