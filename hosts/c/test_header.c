@@ -4,10 +4,22 @@
 
 enum { DEGREE = 4, POSITIONS = 2, LIMIT = BLISS_DRAW_LIMIT(DEGREE) };
 
+/* Refusal 12 has no name of its own: it is told by a result of the exponential. */
 static const uint32_t refusals[] = {
-    BLISS_SERVED,        BLISS_REFUSED_DEGREE,    BLISS_REFUSED_LENGTHS, BLISS_REFUSED_CDT,  BLISS_REFUSED_POLYNOMIAL,
-    BLISS_REFUSED_LIMIT, BLISS_REFUSED_CHALLENGE, BLISS_REFUSED_WORDS,   BLISS_REFUSED_LIST, BLISS_REFUSED_NOT_DRAWN,
-    BLISS_REFUSED_KEY,   BLISS_REFUSED_Y,
+    BLISS_SERVED,
+    BLISS_REFUSED_DEGREE,
+    BLISS_REFUSED_LENGTHS,
+    BLISS_REFUSED_CDT,
+    BLISS_REFUSED_POLYNOMIAL,
+    BLISS_REFUSED_LIMIT,
+    BLISS_REFUSED_CHALLENGE,
+    BLISS_REFUSED_WORDS,
+    BLISS_REFUSED_LIST,
+    BLISS_REFUSED_NOT_DRAWN,
+    BLISS_REFUSED_KEY,
+    BLISS_REFUSED_Y,
+    BLISS_EXPONENTIAL_REFUSED - (UINT64_C(1) << 63),
+    BLISS_REFUSED_KEY_SUM,
 };
 
 static const uint32_t kinds[] = {
@@ -23,6 +35,9 @@ static const uint32_t challenge[POSITIONS] = {0, 3};
 static const uint64_t draw_words[BLISS_DRAW_WORDS(LIMIT)] = {0, 0, 1, 0};
 static const uint64_t respond_words[BLISS_RESPOND_WORDS] = {0, 0, 0};
 static const int32_t key[BLISS_SAMPLES(DEGREE)] = {0};
+
+/* A key whose final sum at length 2 is 104, by hand. */
+static const int32_t worked_key[BLISS_SAMPLES(DEGREE)] = {1, 2, 3, 4, 0, -1, 2, -3};
 
 static int32_t y[BLISS_SAMPLES(DEGREE)];
 static int32_t z[BLISS_SAMPLES(DEGREE)];
@@ -80,6 +95,15 @@ static bool response_is_accepted(bliss_session *session)
            bliss_respond_fits(answer, DEGREE, POSITIONS, respond_list, list_length);
 }
 
+static bool key_check_has_its_sum(void)
+{
+    bliss_key_check passed = bliss_check_key(DEGREE, worked_key, BLISS_SAMPLES(DEGREE), 2);
+    bliss_key_check refused = bliss_check_key(DEGREE, worked_key, BLISS_SAMPLES(DEGREE), DEGREE + 1);
+
+    return passed.refusal == BLISS_SERVED && passed.sum == 104 && passed.sum <= BLISS_KEY_SUM_LIMIT &&
+           refused.refusal == BLISS_REFUSED_CHALLENGE && refused.sum == 0;
+}
+
 int main(void)
 {
     bliss_opened opened;
@@ -89,7 +113,9 @@ int main(void)
     opened = bliss_open(DEGREE);
     if (opened.refusal != BLISS_SERVED || !draw_is_full(&opened.session) || !response_is_accepted(&opened.session))
         return 2;
-    if (!numbers_go_up() || !entry_is_taken_apart(BLISS_KIND_BIT, 1) || !exponential_ends_at_its_limit())
+    if (!key_check_has_its_sum())
         return 3;
-    return POSITIONS <= BLISS_CHALLENGE_LIMIT(DEGREE) && BLISS_STACK_BYTES > 0 ? 0 : 4;
+    if (!numbers_go_up() || !entry_is_taken_apart(BLISS_KIND_BIT, 1) || !exponential_ends_at_its_limit())
+        return 4;
+    return POSITIONS <= BLISS_CHALLENGE_LIMIT(DEGREE) && BLISS_STACK_BYTES > 0 && BLISS_CHECK_KEY_STACK_BYTES > 0 ? 0 : 5;
 }
