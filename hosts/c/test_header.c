@@ -36,9 +36,6 @@ static const uint64_t draw_words[BLISS_DRAW_WORDS(LIMIT)] = {0, 0, 1, 0};
 static const uint64_t respond_words[BLISS_RESPOND_WORDS] = {0, 0, 0};
 static const int32_t key[BLISS_SAMPLES(DEGREE)] = {0};
 
-/* A key whose final sum at length 2 is 104, by hand. */
-static const int32_t worked_key[BLISS_SAMPLES(DEGREE)] = {1, 2, 3, 4, 0, -1, 2, -3};
-
 static int32_t y[BLISS_SAMPLES(DEGREE)];
 static int32_t z[BLISS_SAMPLES(DEGREE)];
 static uint32_t draw_list[BLISS_DRAW_ENTRIES(LIMIT)];
@@ -95,13 +92,19 @@ static bool response_is_accepted(bliss_session *session)
            bliss_respond_fits(answer, DEGREE, POSITIONS, respond_list, list_length);
 }
 
-static bool key_check_has_its_sum(void)
+/* At length 1 the final sum is the sum of squares of the key: here 943 * 49 + 9 + 9, and 1 more. */
+static bool key_sum_ends_at_its_limit(void)
 {
-    bliss_key_check passed = bliss_check_key(DEGREE, worked_key, BLISS_SAMPLES(DEGREE), 2);
-    bliss_key_check refused = bliss_check_key(DEGREE, worked_key, BLISS_SAMPLES(DEGREE), DEGREE + 1);
+    static int32_t long_key[BLISS_SAMPLES(512)] = {3, -3};
+    bliss_key_check passed, refused;
 
-    return passed.refusal == BLISS_SERVED && passed.sum == 104 && passed.sum <= BLISS_KEY_SUM_LIMIT &&
-           refused.refusal == BLISS_REFUSED_CHALLENGE && refused.sum == 0;
+    for (size_t i = 2; i < 945; i++)
+        long_key[i] = 7;
+    passed = bliss_check_key(512, long_key, BLISS_SAMPLES(512), 1);
+    long_key[945] = 1;
+    refused = bliss_check_key(512, long_key, BLISS_SAMPLES(512), 1);
+    return passed.refusal == BLISS_SERVED && passed.sum == BLISS_KEY_SUM_LIMIT && refused.refusal == BLISS_REFUSED_KEY_SUM &&
+           refused.sum == 0;
 }
 
 int main(void)
@@ -113,9 +116,9 @@ int main(void)
     opened = bliss_open(DEGREE);
     if (opened.refusal != BLISS_SERVED || !draw_is_full(&opened.session) || !response_is_accepted(&opened.session))
         return 2;
-    if (!key_check_has_its_sum())
+    if (!exponential_ends_at_its_limit() || !key_sum_ends_at_its_limit())
         return 3;
-    if (!numbers_go_up() || !entry_is_taken_apart(BLISS_KIND_BIT, 1) || !exponential_ends_at_its_limit())
+    if (!numbers_go_up() || !entry_is_taken_apart(BLISS_KIND_BIT, 1))
         return 4;
     return POSITIONS <= BLISS_CHALLENGE_LIMIT(DEGREE) && BLISS_STACK_BYTES > 0 && BLISS_CHECK_KEY_STACK_BYTES > 0 ? 0 : 5;
 }
