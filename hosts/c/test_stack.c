@@ -69,6 +69,20 @@ static void make_other_calls(void)
     as_chosen &= bliss_exponential(UINT64_MAX) == BLISS_EXPONENTIAL_REFUSED;
 }
 
+/* Makes a call on a stack that is all pattern before. */
+static void run(void (*call)(void))
+{
+    static ucontext_t here, there;
+
+    memset(stack, PATTERN, SIZE);
+    as_chosen &= getcontext(&there) == 0;
+    there.uc_stack.ss_sp = stack;
+    there.uc_stack.ss_size = SIZE;
+    there.uc_link = &here;
+    makecontext(&there, call, 0);
+    as_chosen &= swapcontext(&here, &there) == 0;
+}
+
 /* How much of the stack was written, from its top, which is its end, to the deepest byte. */
 static size_t written(void)
 {
@@ -79,7 +93,7 @@ static size_t written(void)
     return SIZE - left;
 }
 
-/* The bytes of the stack that are neither as they were nor 0. */
+/* How many bytes of the stack are neither pattern nor 0. */
 static size_t left_behind(void)
 {
     size_t count = 0;
@@ -94,16 +108,9 @@ static size_t most;
 
 static void measure(const char *name, void (*call)(void))
 {
-    static ucontext_t here, there;
     size_t bytes;
 
-    memset(stack, PATTERN, SIZE);
-    as_chosen &= getcontext(&there) == 0;
-    there.uc_stack.ss_sp = stack;
-    there.uc_stack.ss_size = SIZE;
-    there.uc_link = &here;
-    makecontext(&there, call, 0);
-    as_chosen &= swapcontext(&here, &there) == 0;
+    run(call);
     bytes = written();
     printf("%s: %zu bytes of stack\n", name, bytes);
     most = bytes > most ? bytes : most;
@@ -130,18 +137,6 @@ static void measure_key_check(const char *name, struct key_check chosen)
     measure(name, make_key_check);
 }
 
-/* Whether what a key check leaves is gone once it is overwritten, all but the return addresses and registers of frames. */
-static bool is_wiped(void)
-{
-    enum { FRAMES = 256 };
-    bool was_there;
-
-    measure_key_check("key check, refusal 13", (struct key_check){1024, 64, BLISS_REFUSED_KEY_SUM, 7, 0});
-    was_there = left_behind() > FRAMES;
-    measure("key check, overwritten", make_key_check_and_wipe);
-    return was_there && left_behind() <= FRAMES;
-}
-
 static bool is_within(const char *calls, size_t stated)
 {
     bool within = most <= stated;
@@ -149,6 +144,20 @@ static bool is_within(const char *calls, size_t stated)
     printf("%s: %zu bytes of stack at most, and the header states %zu\n", calls, most, stated);
     most = 0;
     return within;
+}
+
+/* Whether a key check leaves something, and nothing once it is overwritten but return addresses and registers of the frames. */
+static bool is_wiped(void)
+{
+    enum { FRAMES = 64 };
+    size_t before, after;
+
+    run(make_key_check);
+    before = left_behind();
+    run(make_key_check_and_wipe);
+    after = left_behind();
+    printf("key check: %zu bytes left on the stack, and %zu once they are overwritten\n", before, after);
+    return before > FRAMES && after <= FRAMES;
 }
 
 int main(void)
@@ -169,8 +178,9 @@ int main(void)
     within = is_within("calls but the key check", BLISS_STACK_BYTES);
     measure_key_check("key check, passed", (struct key_check){1024, 64, BLISS_SERVED, 1, 2});
     measure_key_check("key check, refusal 10", (struct key_check){1024, 64, BLISS_REFUSED_KEY, 7, 0});
-    wiped = is_wiped();
+    measure_key_check("key check, refusal 13", (struct key_check){1024, 64, BLISS_REFUSED_KEY_SUM, 7, 0});
     within &= is_within("key check", BLISS_CHECK_KEY_STACK_BYTES);
+    wiped = is_wiped();
     if (!as_chosen)
         fprintf(stderr, "test_stack: a call did not come out as it was chosen\n");
     if (!wiped)
