@@ -166,15 +166,22 @@ static void key_passed(void)
         call_check_key((struct key_check){8, 3, BLISS_SERVED, 7, 0});
         call_check_key((struct key_check){16, 16, BLISS_SERVED, 1, 0});
     }
-    call_check_key((struct key_check){64, 23, BLISS_SERVED, 2, 0});
-    call_check_key((struct key_check){512, 1, BLISS_SERVED, 7, 0});
+    call_check_key((struct key_check){64, 64, BLISS_SERVED, 1, 0});
+    call_check_key((struct key_check){128, 23, BLISS_SERVED, 1, 0});
 }
 
-/* No key of a degree below 16 has so large a sum. */
+/* A check's work grows with the square of the degree: traces of these would take longer than all others. Memcheck makes them. */
+static void key_passed_largest(void)
+{
+    call_check_key((struct key_check){512, 23, BLISS_SERVED, 1, 1});
+    call_check_key((struct key_check){1024, 64, BLISS_SERVED, 1, 2});
+}
+
+/* No key of a small degree has so large a sum. */
 static void key_refused_13(void)
 {
     call_check_key((struct key_check){64, 16, BLISS_REFUSED_KEY_SUM, 7, 0});
-    call_check_key((struct key_check){512, 3, BLISS_REFUSED_KEY_SUM, 7, 0});
+    call_check_key((struct key_check){128, 8, BLISS_REFUSED_KEY_SUM, 7, 0});
 }
 
 static void key_refused_10(void)
@@ -246,6 +253,7 @@ static const struct kind {
     {"refused_10", refused_10},
     {"refused_11", refused_11},
     {"key_passed", key_passed},
+    {"key_passed_largest", key_passed_largest},
     {"key_refused_10", key_refused_10},
     {"key_refused_13", key_refused_13},
     {"leaking_n", leaking_n},
