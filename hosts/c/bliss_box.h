@@ -302,7 +302,8 @@ static inline bool bliss_respond_fits(bliss_respond_answer answer, size_t n, siz
 
 /* ==== Key check =========================================================================================================== */
 
-/* The most that the final sum of a key may be, and that A may be in a response that is accepted. */
+/* The most that the final sum of a key may be. A response is rejected where A, the sum of squares of the product of key and
+ * challenge, is larger. */
 #define BLISS_KEY_SUM_LIMIT 46225
 
 /* The most stack that the key check takes, in bytes: it holds a row of 1024 inner products, and the sums of as many rows. */
@@ -316,14 +317,13 @@ BLISS_LAYOUT(key_check, sizeof(bliss_key_check) == 8 && offsetof(bliss_key_check
 
 /* Checks, before a key goes into a box, whether it can always sign at one challenge length.
  * Needs:   the key is s1 and then s2.
- * Gives:   the key's final sum, at most BLISS_KEY_SUM_LIMIT: no challenge of just this length makes a product with the key whose
- *          sum of squares, A, is above that limit, so that no response to one is rejected for A. It says nothing of challenges of
- *          other lengths.
+ * Gives:   the key's final sum, at most BLISS_KEY_SUM_LIMIT: no challenge of just this length has an A above that limit, so that
+ *          no response to one is rejected for A. It says nothing of challenges of other lengths.
  *          The final sum is taken from the table of inner products of the key's n rotations, where rotation j is both halves
  *          times X^j modulo X^n + 1, as one vector: of each row the largest entries are summed, with their signs, as many as the
  *          challenge is long, and then as many of the largest of these sums.
- * Refuses: 1, 2, 6, 10, 13, in this order: 6 for a length outside 1 to 64 or above n, 13 for a final sum above the limit. Make
- *          another key then: with this one the host may meet challenges that it can't answer.
+ * Refuses: 1, 2, 6, 10, 13, in this order: 6 for a length outside 1 to 64 or above n, 13 for a final sum above the limit. With 13
+ *          some challenge of this length may never be answered: make another key.
  * Leaves:  everything. Inner products of the key stay on the stack, which is the host's to overwrite.
  * Time:    no jump and no address depends on the key, except by refusals 10 and 13.
  * The sum tells something of the key, and is the host's to keep. */

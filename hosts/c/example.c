@@ -59,19 +59,9 @@ static struct buffers buffers_for(size_t n)
     return b;
 }
 
-/* Overwrites what calls have left on the stack; the key check leaves the most, inner products of the key among it. It is not
- * inlined, so that its array stands where the calls had their memory. */
-__attribute__((noinline)) static void wipe_stack(void)
-{
-    unsigned char left[BLISS_CHECK_KEY_STACK_BYTES];
-
-    explicit_bzero(left, sizeof left);
-}
-
 /* Wipes what is secret, and hands everything back. */
 static void release(struct buffers *b)
 {
-    wipe_stack();
     explicit_bzero(b->key, b->samples * sizeof *b->key);
     explicit_bzero(b->draw_words, BLISS_DRAW_WORDS(b->limit) * sizeof *b->draw_words);
     explicit_bzero(b->respond_words, sizeof b->respond_words);
@@ -146,12 +136,22 @@ static void fill_key(struct buffers *b)
         b->key[i] = values[i * i * i % 4099 % 7];
 }
 
-/* A key that is refused goes into no box: some challenges could never be answered with it. The sum of one that passes is not
+/* Overwrites the inner products of the key that a check leaves on the stack. It is called where the check was, and not inlined, so
+ * that its array stands where the check had its memory. */
+__attribute__((noinline)) static void wipe_stack(void)
+{
+    unsigned char left[BLISS_CHECK_KEY_STACK_BYTES];
+
+    explicit_bzero(left, sizeof left);
+}
+
+/* A key that is refused goes into no box: some challenges may never be answered with it. The sum of one that passes is not
  * printed, since it tells something of the key. */
 static bool check_key(const struct buffers *b)
 {
     bliss_key_check check = bliss_check_key(b->degree, b->key, b->samples, b->positions);
 
+    wipe_stack();
     if (!served("key check", check.refusal))
         return false;
     printf("the key can answer every challenge of %zu positions\n", b->positions);

@@ -3,7 +3,7 @@
 use core::error;
 use core::fmt;
 
-/// Makes [`Refusal`] of lines that each say all there is of a refusal: its number in documents 01 and 02, the name, and the reason.
+/// Makes [`Refusal`] of lines that each say all there is of a refusal: its number in document 01 or 02, the name, and the reason.
 macro_rules! refusals {
     ($($number:literal $name:ident: $reason:literal,)*) => {
         /// A refusal of documents 01 and 02. A refused call changes nothing that it was lent.

@@ -13,12 +13,12 @@ use crate::refused::{self, Breach};
 
 /// Tells whether a key can always sign, before it goes into a box.
 ///
-/// A key that passes can answer every challenge of just K positions: no response to one is rejected because the product of key and
-/// challenge is too long. That says nothing of challenges of other lengths, nor of whether the key is well made. The key's final sum is
-/// printed beside 46225, the most that passes. It tells something of the key: keep it as you keep the key.
+/// A key that passes can answer every challenge of just K positions: no response to one is rejected because the product of key
+/// and challenge is too long. That says nothing of challenges of other lengths, nor of whether the key is well made. The key's
+/// final sum is printed beside 46225, the most that passes. It tells something of the key: keep it as you keep the key.
 ///
-/// A key whose final sum is above 46225 is refused, by number 13 and with status 1: make another one. Some generators of BLISS-I keys
-/// have a looser bound, 46478: at 23 positions about one in five of their keys is refused.
+/// A key whose final sum is above 46225 is refused, by number 13 and with status 1: make another one. Some generators of
+/// BLISS-I keys have a looser bound, 46478: at 23 positions about one in five of their keys is refused.
 #[derive(Args)]
 #[command(after_help = SEE_FILES)]
 pub struct CheckKey {
