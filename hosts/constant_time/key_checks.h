@@ -1,4 +1,4 @@
-/* Key checks with chosen degree, challenge length and refusal, which are public. The key is secret, and so is its sum; and of a key that
+/* Key checks with chosen degree, challenge length and refusal, which are public. The key and its sum are secret, and of a key that
  * is refused by 10 where it has values out of range, and which. */
 #ifndef KEY_CHECKS_H
 #define KEY_CHECKS_H
@@ -7,8 +7,8 @@
 #include "responses.h"
 #include "secrets.h"
 
-/* What is public of a key check. The size of the key's values and how many of them are zero decide whether it passes: with the numbers
- * that are chosen, any key but one in many thousands comes out as it is chosen. */
+/* What is public of a key check. Whether a key passes is decided by the size of its values and by how many of them are zero: with
+ * the numbers that are used, all but very few keys come out as they are chosen. */
 struct key_check {
     size_t n;
     size_t length;

@@ -175,7 +175,7 @@ static const struct timed all_timed[] = {
     {"bliss_respond, refusal 10: bad first, or anywhere", bad_key_first, bad_key_any, call_respond, 110, RESPONSE, 50000, false},
     {"bliss_respond, refusal 11: bad first, or anywhere", bad_y_first, bad_y_any, call_respond, 111, RESPONSE, 50000, false},
     {"bliss_check_key: the key is 0, or any that passes", zero_key, any_key, call_check_key, 0, RESPONSE, 1000, false},
-    {"bliss_check_key, refusal 10: bad first, or anywhere", bad_key_first, bad_key_any, call_check_key, 10, RESPONSE, 50000, false},
+    {"bliss_check_key, refusal 10: bad first or anywhere", bad_key_first, bad_key_any, call_check_key, 10, RESPONSE, 50000, false},
     {"leaking: a loop of n mod 16 turns", zero_n, any_n, call_leaking_exponential, 0, N, 1000000, true},
     {"leaking: a scan that ends above d", zero_attempt, any_attempt, call_early_exit_scan, 0, ATTEMPT, 1000000, true},
     {"leaking: a check that ends at the bad value", bad_key_first, bad_key_any, call_early_exit_check, 0, RESPONSE, 50000, true},
