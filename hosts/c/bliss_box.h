@@ -4,9 +4,9 @@
  * Layouts may change with any version: build header and archive from one version, and compare bliss_version() with
  * BLISS_BOX_VERSION at the host's start.
  *
- * A call takes any numbers and any contents, keeps no state of its own, uses no heap and at most BLISS_STACK_BYTES of stack, and
- * always returns. A call that can't be served gives the number of the first refusal that applies, and leaves all memory and the
- * session as they were.
+ * A call takes any numbers and any contents, keeps no state of its own, uses no heap and at most BLISS_STACK_BYTES of stack, a key
+ * check at most BLISS_CHECK_KEY_STACK_BYTES, and always returns. A call that can't be served gives the number of the first refusal
+ * that applies, and leaves all memory and the session as they were.
  *
  * The host must guarantee what the types say, and no compiler sees: each pointer is aligned and valid for its length, for writing
  * too where it is not const; none is null, also with a length of 0; a buffer that is written overlaps no other; `drawn` is 0 or 1.
@@ -54,8 +54,8 @@ extern "C" {
  * C99 has no static assertions. */
 #define BLISS_LAYOUT(name, claim) typedef char bliss_layout_of_##name[(claim) ? 1 : -1]
 
-/* The version of this header, 10000 * major + 100 * minor + patch: 0.2.0. */
-#define BLISS_BOX_VERSION 200
+/* The version of this header, 10000 * major + 100 * minor + patch: 0.3.0. */
+#define BLISS_BOX_VERSION 300
 
 /* The version of the archive, by the same rule. A host compares it with BLISS_BOX_VERSION at its start, before any other call,
  * and ends where they differ: a session travels by value, and an archive of another version may take its bytes for something
@@ -63,8 +63,8 @@ extern "C" {
 BLISS_MUST_USE
 uint32_t bliss_version(void);
 
-/* The most stack that a call takes, in bytes. A dynamic linker that looks memset up at its first call takes more, that one time;
- * one that has been told to look it up at the start (-Wl,-z,now) does not. */
+/* The most stack that a call takes, in bytes; the key check has a number of its own. A dynamic linker that looks memset up at its
+ * first call takes more, that one time; one that has been told to look it up at the start (-Wl,-z,now) does not. */
 #define BLISS_STACK_BYTES 1024
 
 /* Refusals. 0 is a call that is served. */
@@ -82,7 +82,8 @@ enum {
                                       each position of a challenge and 47 more */
     BLISS_REFUSED_NOT_DRAWN = 9,   /* a response while nothing is drawn */
     BLISS_REFUSED_KEY = 10,        /* a value of the key is outside -7 to 7 */
-    BLISS_REFUSED_Y = 11           /* a value of y is outside -2815 to 2815 */
+    BLISS_REFUSED_Y = 11,          /* a value of y is outside -2815 to 2815 */
+    BLISS_REFUSED_KEY_SUM = 13     /* the final sum of the key check is above 46225 */
 };
 
 /* A degree, and whether y is drawn. Each call takes a session and hands back the next one: use that one from then on. */
@@ -298,6 +299,36 @@ static inline bool bliss_respond_fits(bliss_respond_answer answer, size_t n, siz
            bliss_entry_is(list[0], BLISS_KIND_RESPONSE, n) &&
            bliss_entry_is(list[filled - 1], BLISS_KIND_BIT, answer.bit);
 }
+
+/* ==== Key check =========================================================================================================== */
+
+/* The most that the final sum of a key may be. A response is rejected where A, the sum of squares of the product of key and
+ * challenge, is larger. */
+#define BLISS_KEY_SUM_LIMIT 46225
+
+/* The most stack that the key check takes, in bytes: it holds a row of 1024 inner products, and the sums of as many rows. */
+#define BLISS_CHECK_KEY_STACK_BYTES 10240
+
+typedef struct {
+    uint32_t refusal;
+    uint32_t sum; /* 0 where the key is refused */
+} bliss_key_check;
+BLISS_LAYOUT(key_check, sizeof(bliss_key_check) == 8 && offsetof(bliss_key_check, sum) == 4);
+
+/* Checks, before a key goes into a box, whether it can always sign at one challenge length.
+ * Needs:   the key is s1 and then s2.
+ * Gives:   the key's final sum, at most BLISS_KEY_SUM_LIMIT: no challenge of just this length has an A above that limit, so that
+ *          no response to one is rejected for A. It says nothing of challenges of other lengths.
+ *          The final sum is taken from the table of inner products of the key's n rotations, where rotation j is both halves
+ *          times X^j modulo X^n + 1, as one vector: of each row the largest entries are summed, with their signs, as many as the
+ *          challenge is long, and then as many of the largest of these sums.
+ * Refuses: 1, 2, 6, 10, 13, in this order: 6 for a length outside 1 to 64 or above n, 13 for a final sum above the limit. With 13
+ *          some challenge of this length may never be answered: make another key.
+ * Leaves:  everything. Inner products of the key stay on the stack, which is the host's to overwrite.
+ * Time:    no jump and no address depends on the key, except by refusals 10 and 13.
+ * The sum tells something of the key, and is the host's to keep. */
+BLISS_MUST_USE BLISS_NONNULL
+bliss_key_check bliss_check_key(size_t n, const int32_t *key, size_t key_length, size_t challenge_length);
 
 /* ==== Exponential ========================================================================================================= */
 

@@ -1,7 +1,7 @@
-/* A whole host, `example DEGREE [NUMBER]`: opens a session, draws noise, responds to a challenge with it, and starts again with
- * new noise and a new challenge for as long as the response is rejected. Prints the tries and the response. Ends with status 1
- * where a call is refused or a test against faults fails. Key and challenges are toys here: making keys and hashing are a host's
- * own.
+/* A whole host, `example DEGREE [NUMBER]`: opens a session, checks its key, draws noise, responds to a challenge with it, and
+ * starts again with new noise and a new challenge for as long as the response is rejected. Prints the tries and the response. Ends
+ * with status 1 where a call is refused or a test against faults fails. Key and challenges are toys here: making keys and hashing
+ * are a host's own.
  *
  * A second argument, a number, replaces the system's random words by those of a small generator, so that a test knows what is
  * printed. Such words must never meet a real key. */
@@ -126,13 +126,36 @@ static bool fill_with_fresh(uint64_t *words, size_t length)
     return true;
 }
 
-/* A key of small values, nearly half of them 0. */
+/* A key of small values, most of them 0. No rotation of it is much like another, since 4099 is a prime above its length: so the
+ * inner products of its rotations are small. */
 static void fill_key(struct buffers *b)
 {
-    static const int32_t values[7] = {1, 0, -1, 0, 2, 0, -1};
+    static const int32_t values[7] = {1, 0, 0, -1, 0, 0, 0};
 
     for (size_t i = 0; i < b->samples; i++)
-        b->key[i] = values[i * i % 101 % 7];
+        b->key[i] = values[i * i * i % 4099 % 7];
+}
+
+/* Overwrites the inner products of the key that a check leaves on the stack. It is called where the check was, and not inlined, so
+ * that its array stands where the check had its memory. */
+__attribute__((noinline)) static void wipe_stack(void)
+{
+    unsigned char left[BLISS_CHECK_KEY_STACK_BYTES];
+
+    explicit_bzero(left, sizeof left);
+}
+
+/* A key that is refused goes into no box: some challenges may never be answered with it. The sum of one that passes is not
+ * printed, since it tells something of the key. */
+static bool check_key(const struct buffers *b)
+{
+    bliss_key_check check = bliss_check_key(b->degree, b->key, b->samples, b->positions);
+
+    wipe_stack();
+    if (!served("key check", check.refusal))
+        return false;
+    printf("the key can answer every challenge of %zu positions\n", b->positions);
+    return true;
 }
 
 /* In a signature the challenge is a hash of the message and of what the noise commits to: another one for each try. */
@@ -244,7 +267,7 @@ int main(int argc, char **argv)
     generator = argc == 3 ? number_of(argv[2]) : 0;
     b = buffers_for(n);
     fill_key(&b);
-    accepted = respond_until_accepted(&b, opened.session, &tries, &answer);
+    accepted = check_key(&b) && respond_until_accepted(&b, opened.session, &tries, &answer);
     if (accepted) {
         printf("degree %zu: accepted after %zu %s, a challenge of %zu positions\n", opened.session.degree, tries,
                tries == 1 ? "try" : "tries", b.positions);

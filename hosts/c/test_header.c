@@ -4,10 +4,22 @@
 
 enum { DEGREE = 4, POSITIONS = 2, LIMIT = BLISS_DRAW_LIMIT(DEGREE) };
 
+/* Refusal 12 has no name of its own: it is told by a result of the exponential. */
 static const uint32_t refusals[] = {
-    BLISS_SERVED,        BLISS_REFUSED_DEGREE,    BLISS_REFUSED_LENGTHS, BLISS_REFUSED_CDT,  BLISS_REFUSED_POLYNOMIAL,
-    BLISS_REFUSED_LIMIT, BLISS_REFUSED_CHALLENGE, BLISS_REFUSED_WORDS,   BLISS_REFUSED_LIST, BLISS_REFUSED_NOT_DRAWN,
-    BLISS_REFUSED_KEY,   BLISS_REFUSED_Y,
+    BLISS_SERVED,
+    BLISS_REFUSED_DEGREE,
+    BLISS_REFUSED_LENGTHS,
+    BLISS_REFUSED_CDT,
+    BLISS_REFUSED_POLYNOMIAL,
+    BLISS_REFUSED_LIMIT,
+    BLISS_REFUSED_CHALLENGE,
+    BLISS_REFUSED_WORDS,
+    BLISS_REFUSED_LIST,
+    BLISS_REFUSED_NOT_DRAWN,
+    BLISS_REFUSED_KEY,
+    BLISS_REFUSED_Y,
+    BLISS_EXPONENTIAL_REFUSED - (UINT64_C(1) << 63),
+    BLISS_REFUSED_KEY_SUM,
 };
 
 static const uint32_t kinds[] = {
@@ -80,6 +92,21 @@ static bool response_is_accepted(bliss_session *session)
            bliss_respond_fits(answer, DEGREE, POSITIONS, respond_list, list_length);
 }
 
+/* At length 1 the final sum is the sum of squares of the key: here 943 * 49 + 9 + 9, and 1 more. */
+static bool key_sum_ends_at_its_limit(void)
+{
+    static int32_t long_key[BLISS_SAMPLES(512)] = {3, -3};
+    bliss_key_check passed, refused;
+
+    for (size_t i = 2; i < 945; i++)
+        long_key[i] = 7;
+    passed = bliss_check_key(512, long_key, BLISS_SAMPLES(512), 1);
+    long_key[945] = 1;
+    refused = bliss_check_key(512, long_key, BLISS_SAMPLES(512), 1);
+    return passed.refusal == BLISS_SERVED && passed.sum == BLISS_KEY_SUM_LIMIT && refused.refusal == BLISS_REFUSED_KEY_SUM &&
+           refused.sum == 0;
+}
+
 int main(void)
 {
     bliss_opened opened;
@@ -89,7 +116,9 @@ int main(void)
     opened = bliss_open(DEGREE);
     if (opened.refusal != BLISS_SERVED || !draw_is_full(&opened.session) || !response_is_accepted(&opened.session))
         return 2;
-    if (!numbers_go_up() || !entry_is_taken_apart(BLISS_KIND_BIT, 1) || !exponential_ends_at_its_limit())
+    if (!exponential_ends_at_its_limit() || !key_sum_ends_at_its_limit())
         return 3;
-    return POSITIONS <= BLISS_CHALLENGE_LIMIT(DEGREE) && BLISS_STACK_BYTES > 0 ? 0 : 4;
+    if (!numbers_go_up() || !entry_is_taken_apart(BLISS_KIND_BIT, 1))
+        return 4;
+    return POSITIONS <= BLISS_CHALLENGE_LIMIT(DEGREE) && BLISS_STACK_BYTES > 0 && BLISS_CHECK_KEY_STACK_BYTES > 0 ? 0 : 5;
 }

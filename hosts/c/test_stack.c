@@ -1,10 +1,13 @@
 /* Measures the stack that calls take, at the largest degree. Each runs on a stack of its own that is filled with a pattern, and
- * how deep the pattern is overwritten must be within the header's BLISS_STACK_BYTES. The frame of the function that makes the
- * call is measured with it.
+ * how deep the pattern is overwritten must be within the header's BLISS_STACK_BYTES, or BLISS_CHECK_KEY_STACK_BYTES for a key
+ * check. The frame of the function that makes the call is measured with it. What a key check leaves there must be gone once it is
+ * overwritten as hosts/c/example.c does.
  *
  * Link it statically: a dynamic linker that looks memset up at its first call takes stack of its own. */
 #define _XOPEN_SOURCE 700
+#define _DEFAULT_SOURCE /* for explicit_bzero */
 #include "../constant_time/draws.h"
+#include "../constant_time/key_checks.h"
 #include "../constant_time/responses.h"
 #include "bliss_box.h"
 
@@ -15,13 +18,13 @@
 enum { SIZE = 1 << 20, PATTERN = 0xa5 };
 
 static unsigned char stack[SIZE];
-static size_t most;
 static bool as_chosen = true;
 
 /* What the calls make. */
 static struct draw draw;
 static size_t accepted;
 static struct response response;
+static struct key_check key_check;
 
 static void make_draw(void)
 {
@@ -38,6 +41,24 @@ static void make_response(void)
     as_chosen &= response_is_chosen(response, made_response(response));
 }
 
+static void make_key_check(void)
+{
+    as_chosen &= key_check_is_chosen(key_check, made_key_check(key_check));
+}
+
+__attribute__((noinline)) static void wipe_stack(void)
+{
+    unsigned char left[BLISS_CHECK_KEY_STACK_BYTES];
+
+    explicit_bzero(left, sizeof left);
+}
+
+static void make_key_check_and_wipe(void)
+{
+    make_key_check();
+    wipe_stack();
+}
+
 static void make_other_calls(void)
 {
     as_chosen &= bliss_version() == BLISS_BOX_VERSION;
@@ -46,6 +67,20 @@ static void make_other_calls(void)
     as_chosen &= bliss_filled(list, 1, 1) == 1;
     as_chosen &= bliss_exponential(0) == one;
     as_chosen &= bliss_exponential(UINT64_MAX) == BLISS_EXPONENTIAL_REFUSED;
+}
+
+/* Makes a call on a stack that is all pattern before. */
+static void run(void (*call)(void))
+{
+    static ucontext_t here, there;
+
+    memset(stack, PATTERN, SIZE);
+    as_chosen &= getcontext(&there) == 0;
+    there.uc_stack.ss_sp = stack;
+    there.uc_stack.ss_size = SIZE;
+    there.uc_link = &here;
+    makecontext(&there, call, 0);
+    as_chosen &= swapcontext(&here, &there) == 0;
 }
 
 /* How much of the stack was written, from its top, which is its end, to the deepest byte. */
@@ -58,18 +93,24 @@ static size_t written(void)
     return SIZE - left;
 }
 
+/* How many bytes of the stack are neither pattern nor 0. */
+static size_t left_behind(void)
+{
+    size_t count = 0;
+
+    for (size_t i = 0; i < SIZE; i++)
+        count += stack[i] != PATTERN && stack[i] != 0;
+    return count;
+}
+
+/* The most stack that was taken, since it was last compared with what the header states. */
+static size_t most;
+
 static void measure(const char *name, void (*call)(void))
 {
-    static ucontext_t here, there;
     size_t bytes;
 
-    memset(stack, PATTERN, SIZE);
-    as_chosen &= getcontext(&there) == 0;
-    there.uc_stack.ss_sp = stack;
-    there.uc_stack.ss_size = SIZE;
-    there.uc_link = &here;
-    makecontext(&there, call, 0);
-    as_chosen &= swapcontext(&here, &there) == 0;
+    run(call);
     bytes = written();
     printf("%s: %zu bytes of stack\n", name, bytes);
     most = bytes > most ? bytes : most;
@@ -89,8 +130,40 @@ static void measure_response(const char *name, uint64_t bit, uint32_t refusal)
     measure(name, make_response);
 }
 
+static void measure_key_check(const char *name, struct key_check chosen)
+{
+    key_check = chosen;
+    prepare_key_check(key_check);
+    measure(name, make_key_check);
+}
+
+static bool is_within(const char *calls, size_t stated)
+{
+    bool within = most <= stated;
+
+    printf("%s: %zu bytes of stack at most, and the header states %zu\n", calls, most, stated);
+    most = 0;
+    return within;
+}
+
+/* Whether a key check leaves something, and nothing once it is overwritten but return addresses and registers of the frames. */
+static bool is_wiped(void)
+{
+    enum { FRAMES = 64 };
+    size_t before, after;
+
+    run(make_key_check);
+    before = left_behind();
+    run(make_key_check_and_wipe);
+    after = left_behind();
+    printf("key check: %zu bytes left on the stack, and %zu once they are overwritten\n", before, after);
+    return before > FRAMES && after <= FRAMES;
+}
+
 int main(void)
 {
+    bool within, wiped;
+
     seed_secrets("1");
     measure_draw("draw, full", (struct draw){1024, 2304, 2048, 15, 0});
     measure_draw("draw, spent", (struct draw){1024, 2048, 2047, 11, 0});
@@ -102,8 +175,15 @@ int main(void)
     measure_response("response, refusal 10", 0, BLISS_REFUSED_KEY);
     measure_response("response, refusal 11", 0, BLISS_REFUSED_Y);
     measure("other calls", make_other_calls);
-    printf("stack: %zu bytes at most, and the header states %d\n", most, BLISS_STACK_BYTES);
+    within = is_within("calls but the key check", BLISS_STACK_BYTES);
+    measure_key_check("key check, passed", (struct key_check){1024, 64, BLISS_SERVED, 1, 2});
+    measure_key_check("key check, refusal 10", (struct key_check){1024, 64, BLISS_REFUSED_KEY, 7, 0});
+    measure_key_check("key check, refusal 13", (struct key_check){1024, 64, BLISS_REFUSED_KEY_SUM, 7, 0});
+    within &= is_within("key check", BLISS_CHECK_KEY_STACK_BYTES);
+    wiped = is_wiped();
     if (!as_chosen)
         fprintf(stderr, "test_stack: a call did not come out as it was chosen\n");
-    return !(as_chosen && most <= BLISS_STACK_BYTES);
+    if (!wiped)
+        fprintf(stderr, "test_stack: overwriting what a key check leaves shows nothing, or leaves some of it\n");
+    return !(as_chosen && within && wiped);
 }

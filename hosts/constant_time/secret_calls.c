@@ -4,6 +4,7 @@
  * traces would show nothing. */
 #include "bliss_box.h"
 #include "draws.h"
+#include "key_checks.h"
 #include "leaks.h"
 #include "responses.h"
 #include "secrets.h"
@@ -146,6 +147,53 @@ static void refused_11(void)
     respond(0, BLISS_REFUSED_Y);
 }
 
+static void call_check_key(struct key_check c)
+{
+    bliss_key_check check;
+
+    prepare_key_check(c);
+    begin_call();
+    check = made_key_check(c);
+    /* The sum stays secret. */
+    reveal(&check.refusal, sizeof check.refusal);
+    as_chosen &= key_check_is_chosen(c, check);
+}
+
+static void key_passed(void)
+{
+    for (int i = 0; i < OFTEN; i++) {
+        call_check_key((struct key_check){4, 4, BLISS_SERVED, 7, 0});
+        call_check_key((struct key_check){8, 3, BLISS_SERVED, 7, 0});
+        call_check_key((struct key_check){16, 16, BLISS_SERVED, 1, 0});
+    }
+    call_check_key((struct key_check){64, 64, BLISS_SERVED, 1, 0});
+    call_check_key((struct key_check){128, 23, BLISS_SERVED, 1, 0});
+}
+
+/* A check's work grows with the square of the degree: traces of these would take longer than all others. Memcheck makes them. */
+static void key_passed_largest(void)
+{
+    call_check_key((struct key_check){512, 23, BLISS_SERVED, 1, 1});
+    call_check_key((struct key_check){1024, 64, BLISS_SERVED, 1, 2});
+}
+
+/* No key of a small degree has so large a sum. */
+static void key_refused_13(void)
+{
+    call_check_key((struct key_check){64, 16, BLISS_REFUSED_KEY_SUM, 7, 0});
+    call_check_key((struct key_check){128, 8, BLISS_REFUSED_KEY_SUM, 7, 0});
+}
+
+static void key_refused_10(void)
+{
+    for (int i = 0; i < OFTEN; i++) {
+        call_check_key((struct key_check){4, 4, BLISS_REFUSED_KEY, 7, 0});
+        call_check_key((struct key_check){16, 16, BLISS_REFUSED_KEY, 7, 0});
+    }
+    call_check_key((struct key_check){512, 23, BLISS_REFUSED_KEY, 7, 0});
+    call_check_key((struct key_check){1024, 64, BLISS_REFUSED_KEY, 7, 0});
+}
+
 static void leaking_n(void)
 {
     for (int i = 0; i < OFTEN; i++) {
@@ -182,6 +230,15 @@ static void leaking_check(void)
     }
 }
 
+static void leaking_pick(void)
+{
+    for (int i = 0; i < OFTEN; i++) {
+        prepare_key_check((struct key_check){16, 16, BLISS_SERVED, 1, 0});
+        begin_call();
+        result = early_exit_pick(lent.key, 32);
+    }
+}
+
 static const struct kind {
     const char *name;
     void (*make)(void);
@@ -195,10 +252,15 @@ static const struct kind {
     {"refused_9", refused_9},
     {"refused_10", refused_10},
     {"refused_11", refused_11},
+    {"key_passed", key_passed},
+    {"key_passed_largest", key_passed_largest},
+    {"key_refused_10", key_refused_10},
+    {"key_refused_13", key_refused_13},
     {"leaking_n", leaking_n},
     {"leaking_place", leaking_place},
     {"leaking_scan", leaking_scan},
     {"leaking_check", leaking_check},
+    {"leaking_pick", leaking_pick},
 };
 
 int main(int argc, char **argv)

@@ -5,6 +5,7 @@
  * was chosen: then the measurements show nothing. */
 #include "bliss_box.h"
 #include "draws.h"
+#include "key_checks.h"
 #include "leaks.h"
 #include "responses.h"
 #include "secrets.h"
@@ -46,6 +47,7 @@ struct measurement {
 static const struct draw full = {512, 2048, 1024, 11, 0};
 static const struct response accepted = {512, 23, 1, BLISS_SERVED, 0};
 static const struct response rejected = {512, 23, 0, BLISS_SERVED, 0};
+static const struct key_check passed = {512, 23, BLISS_SERVED, 1, 1};
 static word fixed[sizeof lent / sizeof(word)];
 static volatile uint64_t found;
 
@@ -82,6 +84,16 @@ static void any_accepted(void)
 static void any_rejected(void)
 {
     prepare_response(rejected);
+}
+
+static void zero_key(void)
+{
+    memset(lent.key, 0, sizeof lent.key);
+}
+
+static void any_key(void)
+{
+    prepare_key_check(passed);
 }
 
 /* One value that is out of range, at a place below a bound. */
@@ -129,6 +141,11 @@ static uint64_t call_respond(void)
     return answer.refusal == BLISS_SERVED ? answer.bit : 100 + answer.refusal;
 }
 
+static uint64_t call_check_key(void)
+{
+    return made_key_check(passed).refusal;
+}
+
 static uint64_t call_leaking_exponential(void)
 {
     return leaking_exponential(lent.n);
@@ -157,6 +174,8 @@ static const struct timed all_timed[] = {
     {"bliss_respond, bit 0", any_rejected, any_rejected, call_respond, 0, RESPONSE, 20000, false},
     {"bliss_respond, refusal 10: bad first, or anywhere", bad_key_first, bad_key_any, call_respond, 110, RESPONSE, 50000, false},
     {"bliss_respond, refusal 11: bad first, or anywhere", bad_y_first, bad_y_any, call_respond, 111, RESPONSE, 50000, false},
+    {"bliss_check_key: the key is 0, or any that passes", zero_key, any_key, call_check_key, 0, RESPONSE, 1000, false},
+    {"bliss_check_key, refusal 10: bad first or anywhere", bad_key_first, bad_key_any, call_check_key, 10, RESPONSE, 50000, false},
     {"leaking: a loop of n mod 16 turns", zero_n, any_n, call_leaking_exponential, 0, N, 1000000, true},
     {"leaking: a scan that ends above d", zero_attempt, any_attempt, call_early_exit_scan, 0, ATTEMPT, 1000000, true},
     {"leaking: a check that ends at the bad value", bad_key_first, bad_key_any, call_early_exit_check, 0, RESPONSE, 50000, true},

@@ -1,15 +1,17 @@
 //! The BLISS-I sampling box for a Rust host. It draws the noise vector y of a signature from random words that the host
 //! supplies, turns y, a key and a challenge into a response or a rejection, and lists what it reads of words, tables and key
-//! after its checks. Document 01 is the definition of the box; docs/SPECIFICATION.md has its rules, and what is listed.
+//! after its checks. Before a key goes into a box, it tells whether the key can always sign. Documents 01 and 02 are the
+//! definition of the box; docs/SPECIFICATION.md has its rules, and what is listed.
 //!
 //! ```
-//! use bliss_box::{draw_limit, draw_word_count, OwnedDraw, Secret, Session, CDT, POLYNOMIAL, RESPOND_WORDS};
+//! use bliss_box::{check_key, draw_limit, draw_word_count, OwnedDraw, Secret, Session, CDT, POLYNOMIAL, RESPOND_WORDS};
 //!
 //! // Making keys and challenges is the host's. A key is s1 and then s2, a challenge its positions in ascending order.
 //! let key = Secret::from(vec![1; 1024]);
 //! let challenge = [3, 141, 500];
-//! let limit = draw_limit(512);
+//! check_key(512, &key, challenge.len())?; // once, before its first response: a key that is refused goes into no box
 //!
+//! let limit = draw_limit(512);
 //! let mut session = Session::open(512)?;
 //! let z = loop {
 //!     let words = Secret::system_words(draw_word_count(limit))?;
@@ -54,6 +56,7 @@ mod cdt;
 mod draw;
 mod exponential;
 mod fault;
+mod key_check;
 mod owned;
 pub mod raw;
 mod read_list;
@@ -68,6 +71,7 @@ pub use cdt::cdt;
 pub use draw::{draw_limit, draw_list_length, draw_word_count, sample_count, Counts, Drawn};
 pub use exponential::exponential;
 pub use fault::Fault;
+pub use key_check::{check_key, KeyCheck, KEY_SUM_LIMIT};
 pub use owned::{CallError, Noise, OwnedDraw, OwnedResponse, Spent};
 pub use read_list::{filled, Entry, Kind};
 pub use refusal::Refusal;

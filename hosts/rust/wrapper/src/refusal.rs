@@ -3,10 +3,10 @@
 use core::error;
 use core::fmt;
 
-/// Makes [`Refusal`] of lines that each say all there is of a refusal: document 01's number, the name, and the reason.
+/// Makes [`Refusal`] of lines that each say all there is of a refusal: its number in document 01 or 02, the name, and the reason.
 macro_rules! refusals {
     ($($number:literal $name:ident: $reason:literal,)*) => {
-        /// A refusal of document 01. A refused call changes nothing that it was lent.
+        /// A refusal of documents 01 and 02. A refused call changes nothing that it was lent.
         #[derive(Clone, Copy, Debug, PartialEq, Eq, Hash)]
         #[non_exhaustive]
         pub enum Refusal {
@@ -16,7 +16,7 @@ macro_rules! refusals {
         }
 
         impl Refusal {
-            /// Document 01's number of this refusal.
+            /// The number of this refusal in these documents.
             #[must_use]
             pub const fn number(self) -> u32 {
                 match self {
@@ -58,6 +58,7 @@ refusals! {
     10 Key: "a value of the key is outside -7 to 7",
     11 Y: "a value of y is outside -2815 to 2815",
     12 Exponential: "N is above 5534960",
+    13 KeySum: "the final sum of the key check is above 46225",
 }
 
 impl fmt::Display for Refusal {
@@ -80,7 +81,7 @@ mod tests {
         for number in (1..100).chain([u32::MAX]) {
             let refusal = served(number).unwrap_err();
             assert_eq!(refusal.number(), number);
-            assert_eq!(refusal == Refusal::Unknown(number), number > 12, "{number}");
+            assert_eq!(refusal == Refusal::Unknown(number), number > 13, "{number}");
             assert!(refusal.to_string().starts_with(&format!("refusal {number}: ")));
         }
     }

@@ -52,7 +52,7 @@ impl Session {
     ///
     /// The words must be fresh random words, as many as [`RESPOND_WORDS`] or more, used for this response alone. With noise drawn
     /// by [`CDT`](crate::CDT) a response is accepted with a chance of about 0.61, and never where the product's sum of squares is
-    /// above 46,225.
+    /// above 46,225; a key that passes [`check_key`](crate::check_key) at the challenge's length makes no such product.
     #[allow(clippy::too_many_arguments)]
     pub fn respond(
         self,

@@ -1,6 +1,7 @@
 //! The commands of the program. Each has a file here, with its arguments, whose comments are its help, and its `run`; a variant of
 //! [`Command`]; and a line in [`Command::run`]. Help, completions and manual page are made from the variants.
 
+mod check_key;
 mod completions;
 mod demo;
 mod draw;
@@ -17,6 +18,7 @@ use crate::ending::{Failure, Status};
 pub enum Command {
     Draw(draw::Draw),
     Respond(respond::Respond),
+    CheckKey(check_key::CheckKey),
     Exp(exp::Exp),
     List(list::List),
     Demo(demo::Demo),
@@ -29,6 +31,7 @@ impl Command {
         match self {
             Command::Draw(draw) => draw.run(),
             Command::Respond(respond) => respond.run(),
+            Command::CheckKey(check_key) => check_key.run(),
             Command::Exp(exp) => exp.run(),
             Command::List(list) => list.run(),
             Command::Demo(demo) => demo.run(),

@@ -47,7 +47,8 @@ pub struct Respond {
 /// The tries where no number of them is given. About 0.61 of all tries are accepted, so that these fail with a chance of 2^-86.
 const TRIES: usize = 64;
 
-const NEVER_ACCEPTED: &str = "A product of key and challenge whose sum of squares is above 46225 is never accepted.";
+const NEVER_ACCEPTED: &str = "A product of key and challenge whose sum of squares is above 46225 is never accepted; \
+                              a key that passes bliss-box check-key at the challenge's length makes none.";
 
 /// What the tries of a command are made with.
 struct Responding {

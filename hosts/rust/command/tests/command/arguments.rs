@@ -17,7 +17,8 @@ fn help_is_printed() {
     assert!(short.starts_with("The BLISS-I sampling box from the command line\n"));
     assert!(short.contains("\nExit status:\n  0  served"));
     assert_eq!([&short, &short], [&long, &by_command]);
-    assert!(commands().starts_with(&["draw", "respond", "exp", "list", "demo", "completions", "manual"].map(String::from)));
+    assert!(commands()
+        .starts_with(&["draw", "respond", "check-key", "exp", "list", "demo", "completions", "manual"].map(String::from)));
 }
 
 #[test]
@@ -39,6 +40,7 @@ fn each_option_is_in_the_help() {
     let drawing = ["--degree", "--limit", "--cdt", "--words", "--list"];
     assert_eq!(options("draw"), drawing);
     assert_eq!(options("respond"), [&["--key", "--challenge", "--tries"], &drawing[..]].concat());
+    assert_eq!(options("check-key"), ["--length", "--degree"]);
     assert_eq!(options("demo"), ["--degree"]);
     for command in commands() {
         for option in options(&command) {
@@ -122,6 +124,7 @@ fn wrong_command_lines_are_explained() {
         (&["draw", "--", "--degree"], "--degree"),
         (&["draw", "--list", "-l"], "-l"),
         (&["list", "a", "b"], "b"),
+        (&["check-key", "--length", "23", "a", "b"], "b"),
         (&["demo", "--limit", "4"], "--limit"),
     ] {
         wrong(arguments, &format!("Found argument '{unexpected}'"), "which wasn't expected");
@@ -134,6 +137,8 @@ fn wrong_command_lines_are_explained() {
     wrong(&["respond", "--degree", "12", "--challenge", "c"], missing, "\n  --key <FILE>");
     wrong(&["exp"], missing, "\n  <N>...");
     wrong(&["list"], missing, "\n  <FILE>");
+    wrong(&["check-key", "k"], missing, "\n  --length <K>");
+    wrong(&["check-key", "--length", "23"], missing, "\n  <FILE>");
 }
 
 #[test]

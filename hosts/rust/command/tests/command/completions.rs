@@ -18,6 +18,8 @@ fn bash_completes_commands_options_and_files() {
     assert_eq!(offered(&["bliss-box", "dr"]), "draw");
     assert_eq!(offered(&["bliss-box", "draw", "--li"]), "--limit --list");
     assert_eq!(offered(&["bliss-box", "draw", "--tr"]), "");
+    assert_eq!(offered(&["bliss-box", "check"]), "check-key");
+    assert_eq!(offered(&["bliss-box", "check-key", "--l"]), "--length");
     assert_eq!(offered(&["bliss-box", "completions", "po"]), "powershell");
     let list = file("completed-list", "");
     assert_eq!(offered(&["bliss-box", "draw", "--list", &list[..list.len() - 4]]), list);

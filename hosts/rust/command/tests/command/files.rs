@@ -5,7 +5,7 @@ use bliss_box::{draw_limit, CDT};
 use super::*;
 
 /// Command lines that read a file, each up to the file's name.
-fn reading(name: &str) -> [Vec<String>; 5] {
+fn reading(name: &str) -> [Vec<String>; 6] {
     let [key, challenge] = key_and_challenge(name);
     let run = |arguments: &[&str]| arguments.iter().copied().map(String::from).collect();
     [
@@ -14,6 +14,7 @@ fn reading(name: &str) -> [Vec<String>; 5] {
         run(&["list"]),
         run(&["draw", "--degree", "4", "--words"]),
         run(&["respond", "--degree", "4", "--challenge", &challenge, "--key"]),
+        run(&["check-key", "--degree", "4", "--length", "1"]),
     ]
 }
 
@@ -53,8 +54,9 @@ fn bad_values_in_public_files_are_shown_with_their_line() {
 /// Each value is of one digit alone, which is in no range and no line's number: it must not be said.
 #[test]
 fn values_in_secret_files_are_never_shown() {
-    let [.., words, key] = reading("secret");
-    let files = [("words", words, '2', "0 to 18446744073709551615"), ("key", key, '5', "-2147483648 to 2147483647")];
+    let [.., words, key, checked] = reading("secret");
+    let (word_range, key_range) = ("0 to 18446744073709551615", "-2147483648 to 2147483647");
+    let files = [("words", words, '2', word_range), ("key", key, '5', key_range), ("checked", checked, '5', key_range)];
     for (name, with, digit, range) in files {
         let refused = |bad: &str, problem: &str| {
             let text = bad.replace('D', &digit.to_string());
@@ -80,8 +82,8 @@ fn values_in_secret_files_are_never_shown() {
             refused(&bad, &format!("this value is outside {range}"));
         }
         match name {
-            "key" => refused("-DDDDDDDDDD", &format!("this value is outside {range}")),
-            _ => refused("-D", "this value has a minus sign, and no value here is negative"),
+            "words" => refused("-D", "this value has a minus sign, and no value here is negative"),
+            _ => refused("-DDDDDDDDDD", &format!("this value is outside {range}")),
         }
         refused(&"D".repeat(4097), "this line is longer than 4096 bytes");
     }
@@ -146,8 +148,9 @@ fn tables_without_end_are_read_to_the_first_number_too_many() {
         assert_eq!((ran.status, ran.out.as_str(), ran.err), (1, "", format!("bliss-box: standard input: {problem}\n")));
     };
     refused(&["draw", "--cdt", "-"], "refusal 2: its length is more than 20, and 20 is wanted");
-    let respond = ["respond", "--degree", "4", "--challenge", &challenge, "--key", "-"];
-    refused(&respond, "refusal 2: its length is more than 8, and 8 is wanted");
+    let too_long = "refusal 2: its length is more than 8, and 8 is wanted";
+    refused(&["respond", "--degree", "4", "--challenge", &challenge, "--key", "-"], too_long);
+    refused(&["check-key", "--degree", "4", "--length", "1", "-"], too_long);
     let respond = ["respond", "--degree", "4", "--key", &key, "--challenge", "-"];
     refused(&respond, "refusal 6: it holds more than 4 positions, the most at degree 4");
 }

@@ -1,6 +1,7 @@
 //! The program bliss-box, run on good and bad input: what it prints, what it says, and its exit status.
 
 mod arguments;
+mod check_key;
 mod completions;
 mod demo;
 mod draw;

@@ -14,7 +14,7 @@ fn each_command_and_option_is_in_the_manual() {
     let described = section(&page, "SH", "COMMANDS");
     for command in commands() {
         let section = section(&format!("\n{described}"), "SS", &command).to_owned();
-        assert!(section.starts_with(&format!("\\fBbliss\\-box {command}\\fR")), "{section}");
+        assert!(section.starts_with(&format!("\\fBbliss\\-box {}\\fR", command.replace('-', "\\-"))), "{section}");
         for option in options(&command) {
             let tag = format!("\n.TP\n\\fB{}\\fR ", option.replace('-', "\\-"));
             assert_eq!(section.matches(&tag).count(), 1, "{option}: {section}");

@@ -78,6 +78,7 @@ fn standard_output_is_none_of_the_other_files() {
         (inputs.respond(&["--list", "-"]), &inputs.words, "--words"),
         (inputs.respond(&["--list", &list]), &list, "--list"),
         (vec!["list", &reads], &reads, "FILE"),
+        (vec!["check-key", "--degree", "4", "--length", "1", &inputs.key], &inputs.key, "FILE"),
     ] {
         let appending = OpenOptions::new().append(true).open(output).unwrap();
         let ran = ended(program(&arguments).stdout(appending).spawn().unwrap());

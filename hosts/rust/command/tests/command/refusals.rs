@@ -33,6 +33,7 @@ fn refusals_of_the_box_are_said() {
         let problem = "refusal 1: the degree is not a power of two from 4 to 1024";
         fails(&["draw", "--degree", degree], 1, &format!("--degree {degree}: {problem}"));
         fails(&["demo", "--degree", degree], 1, &format!("--degree {degree}: {problem}"));
+        fails(&["check-key", "--degree", degree, "--length", "1", "missing"], 1, &format!("--degree {degree}: {problem}"));
     }
     for limit in ["0", "7", "129", "18446744073709551615"] {
         let problem = format!("--limit {limit}: refusal 5: at degree 4 the limit is 8 to 128");

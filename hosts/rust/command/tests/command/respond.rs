@@ -56,7 +56,8 @@ fn long_products_are_never_accepted() {
     let (key, challenge) = (file("long-key", lines(&[7; 1024])), file("long-challenge", lines(&(0..64).collect::<Vec<_>>())));
     let ran = run(&["respond", "--key", &key, "--challenge", &challenge, "--tries", "3"]);
     assert_eq!((ran.status, ran.out.as_str(), ran.err.matches("; response rejected: ").count()), (3, "", 3));
-    assert!(ran.err.ends_with("whose sum of squares is above 46225 is never accepted.\n"));
+    let advice = "is never accepted; a key that passes bliss-box check-key at the challenge's length makes none.\n";
+    assert!(ran.err.ends_with(&format!("whose sum of squares is above 46225 {advice}")), "{}", ran.err);
 }
 
 #[test]

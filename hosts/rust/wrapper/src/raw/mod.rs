@@ -14,6 +14,7 @@ macro_rules! layout {
 mod draw;
 mod exponential;
 mod filled;
+mod key_check;
 mod open;
 mod respond;
 mod version;
@@ -21,6 +22,7 @@ mod version;
 pub use draw::{bliss_draw, DrawAnswer, Drawn};
 pub use exponential::bliss_exponential;
 pub use filled::bliss_filled;
+pub use key_check::{bliss_check_key, KeyCheck};
 pub use open::{bliss_open, Opened, Session};
 pub use respond::{bliss_respond, RespondAnswer, Responded};
 pub use version::{bliss_version, VERSION};

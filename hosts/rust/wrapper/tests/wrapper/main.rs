@@ -4,6 +4,7 @@ mod draw;
 mod draw_limit;
 mod exponential;
 mod faults;
+mod key_check;
 mod open;
 mod owned;
 mod read_list;

@@ -1,4 +1,4 @@
-//! The refusals, by the numbers of document 01.
+//! The refusals, by the numbers of documents 01 and 02.
 
 use bliss_box::Refusal;
 
@@ -17,9 +17,11 @@ fn refusals_carry_their_number() {
         Refusal::Key,
         Refusal::Y,
         Refusal::Exponential,
+        Refusal::KeySum,
     ];
-    assert_eq!(refusals.map(Refusal::number), [1, 2, 3, 4, 5, 6, 7, 8, 9, 10, 11, 12]);
+    assert_eq!(refusals.map(Refusal::number), [1, 2, 3, 4, 5, 6, 7, 8, 9, 10, 11, 12, 13]);
     assert_eq!(Refusal::Key.to_string(), "refusal 10: a value of the key is outside -7 to 7");
     assert_eq!(Refusal::Exponential.to_string(), "refusal 12: N is above 5534960");
-    assert_eq!(Refusal::Unknown(13).to_string(), "refusal 13: it has no name here");
+    assert_eq!(Refusal::KeySum.to_string(), "refusal 13: the final sum of the key check is above 46225");
+    assert_eq!(Refusal::Unknown(14).to_string(), "refusal 14: it has no name here");
 }

@@ -103,10 +103,11 @@ fn timed_response(noise: Noise, number: usize) -> Result<(OwnedResponse, Duratio
     Ok((responded, start.elapsed()))
 }
 
-/// A key of small values, nearly half of them 0, and nobody's.
+/// A key of small values, most of them 0, and nobody's. No rotation of it is much like another, since 4099 is a prime above its
+/// length: so it can answer each challenge of the demo.
 fn toy_key(n: usize) -> Vec<i32> {
-    const KEY_VALUES: [i32; 7] = [1, 0, -1, 0, 2, 0, -1];
-    (0..sample_count(n)).map(|i| KEY_VALUES[i * i % 101 % 7]).collect()
+    const KEY_VALUES: [i32; 7] = [1, 0, 0, -1, 0, 0, 0];
+    (0..sample_count(n)).map(|i| KEY_VALUES[i * i * i % 4099 % 7]).collect()
 }
 
 /// In a signature the challenge is a hash of the message and of what the noise commits to: another one for each try.
@@ -159,4 +160,16 @@ fn listed(list: &[u32]) -> String {
         text += &format!("    {:>4}  {count:>7}  {kind}\n", kind.number());
     }
     text
+}
+
+#[cfg(test)]
+mod tests {
+    use super::*;
+
+    #[test]
+    fn the_toy_key_can_always_sign() {
+        for n in [4, 8, 16, 32, 64, 128, 256, 512, 1024] {
+            assert_eq!(bliss_box::check_key(n, &toy_key(n), toy_challenge(n, 0).len()).err(), None, "degree {n}");
+        }
+    }
 }
