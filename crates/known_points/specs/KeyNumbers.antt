@@ -28,13 +28,15 @@ rowSums count = rowSum worked 4 count 0 ∷ rowSum worked 4 count 1 ∷ rowSum w
 -- keys of degree 16 at the limit and over it
 abbrev pub atLimit : List ℤ
 atLimit =
-    negsuc 2 ∷ pos 5 ∷ pos 4 ∷ pos 5 ∷ pos 5 ∷ negsuc 1 ∷ pos 3 ∷ pos 5 ∷ pos 6 ∷ pos 3 ∷ negsuc 6 ∷ pos 4 ∷ pos 3 ∷ pos 6 ∷ pos 5 ∷ pos 4
-    ∷ pos 7 ∷ pos 6 ∷ pos 5 ∷ pos 7 ∷ negsuc 3 ∷ pos 5 ∷ pos 7 ∷ pos 5 ∷ pos 5 ∷ pos 6 ∷ pos 6 ∷ pos 6 ∷ pos 6 ∷ pos 4 ∷ pos 0 ∷ pos 4 ∷ []
+    negsuc 2 ∷ pos 5 ∷ pos 4 ∷ pos 5 ∷ pos 5 ∷ negsuc 1 ∷ pos 3 ∷ pos 5 ∷ pos 6 ∷ pos 3 ∷ negsuc 6 ∷ pos 4
+    ∷ pos 3 ∷ pos 6 ∷ pos 5 ∷ pos 4 ∷ pos 7 ∷ pos 6 ∷ pos 5 ∷ pos 7 ∷ negsuc 3 ∷ pos 5 ∷ pos 7 ∷ pos 5
+    ∷ pos 5 ∷ pos 6 ∷ pos 6 ∷ pos 6 ∷ pos 6 ∷ pos 4 ∷ pos 0 ∷ pos 4 ∷ []
 
 abbrev pub overLimit : List ℤ
 overLimit =
-    pos 4 ∷ pos 5 ∷ pos 3 ∷ pos 5 ∷ pos 7 ∷ negsuc 1 ∷ pos 7 ∷ pos 4 ∷ pos 6 ∷ pos 7 ∷ negsuc 3 ∷ pos 3 ∷ pos 3 ∷ pos 4 ∷ pos 7 ∷ pos 5
-    ∷ pos 5 ∷ pos 6 ∷ pos 7 ∷ pos 6 ∷ negsuc 1 ∷ pos 6 ∷ pos 6 ∷ pos 7 ∷ pos 3 ∷ negsuc 2 ∷ pos 5 ∷ pos 7 ∷ pos 3 ∷ pos 6 ∷ pos 1 ∷ pos 6 ∷ []
+    pos 4 ∷ pos 5 ∷ pos 3 ∷ pos 5 ∷ pos 7 ∷ negsuc 1 ∷ pos 7 ∷ pos 4 ∷ pos 6 ∷ pos 7 ∷ negsuc 3 ∷ pos 3
+    ∷ pos 3 ∷ pos 4 ∷ pos 7 ∷ pos 5 ∷ pos 5 ∷ pos 6 ∷ pos 7 ∷ pos 6 ∷ negsuc 1 ∷ pos 6 ∷ pos 6 ∷ pos 7
+    ∷ pos 3 ∷ negsuc 2 ∷ pos 5 ∷ pos 7 ∷ pos 3 ∷ pos 6 ∷ pos 1 ∷ pos 6 ∷ []
 
 pub record KeyNumbers : Type 0 where
   -- ** The largest
