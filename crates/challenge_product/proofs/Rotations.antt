@@ -15,17 +15,21 @@ use Rattle.challenge_product.proofs.Modulo.{term-direct, term-wrapped}
 -- ** The product as a sum
 
 module _ (key : List ℤ) (n c : ℕ) (challenge : List ℕ) where
-  outputs-plus : (base i count : ℕ) → outputsFrom key n base (c ∷ challenge) i count ≡ plusAll (outputsFrom key n base (c ∷ []) i count) (outputsFrom key n base challenge i count)
+  outputs-plus : (base i count : ℕ)
+      → outputsFrom key n base (c ∷ challenge) i count ≡ plusAll (outputsFrom key n base (c ∷ []) i count)
+      (outputsFrom key n base challenge i count)
   unfolding outputsFrom plusAll outputAt
   outputs-plus base i zero = refl
   outputs-plus base i (suc count) =
-      ap₂ (λ (v : ℤ) (l : List ℤ). (v +ℤ outputAt key n base i challenge) ∷ l) (sym (+ℤ-idr (termAt key n base i c))) (outputs-plus base (suc i) count)
+      ap₂ (λ (v : ℤ) (l : List ℤ). (v +ℤ outputAt key n base i challenge) ∷ l) (sym (+ℤ-idr (termAt key n base i c)))
+      (outputs-plus base (suc i) count)
 
   pub product-plus : product key n (c ∷ challenge) ≡ plusAll (product key n (c ∷ [])) (product key n challenge)
   unfolding product
   product-plus =
       ap₂ (λ (l m : List ℤ). l ++ m) (outputs-plus 0 0 n) (outputs-plus n 0 n)
-      ∙ sym (plus-append (outputsFrom key n 0 (c ∷ []) 0 n) (outputsFrom key n 0 challenge 0 n) (outputsFrom key n n (c ∷ []) 0 n) (outputsFrom key n n challenge 0 n) (length-outputsFrom key n 0 (c ∷ []) 0 n ∙ sym (length-outputsFrom key n 0 challenge 0 n)))
+      ∙ sym (plus-append (outputsFrom key n 0 (c ∷ []) 0 n) (outputsFrom key n 0 challenge 0 n) (outputsFrom key n n (c ∷ []) 0 n)
+      (outputsFrom key n n challenge 0 n) (length-outputsFrom key n 0 (c ∷ []) 0 n ∙ sym (length-outputsFrom key n 0 challenge 0 n)))
 
 -- the product of no positions is zero
 outputs-none : (key : List ℤ) (n base i count : ℕ) → outputsFrom key n base [] i count ≡ replicate count (pos 0)
@@ -36,11 +40,13 @@ outputs-none key n base i (suc count) = ap (λ (l : List ℤ). pos 0 ∷ l) (out
 pub inner-product-none : (key : List ℤ) (n : ℕ) (w : List ℤ) → innerProduct (product key n []) w ≡ pos 0
 unfolding product
 inner-product-none key n w =
-    ap (λ (l : List ℤ). innerProduct l w) (ap₂ (λ (l m : List ℤ). l ++ m) (outputs-none key n 0 0 n) (outputs-none key n n 0 n) ∙ replicate-append-replicate n n (pos 0))
+    ap (λ (l : List ℤ). innerProduct l w)
+    (ap₂ (λ (l m : List ℤ). l ++ m) (outputs-none key n 0 0 n) (outputs-none key n n 0 n) ∙ replicate-append-replicate n n (pos 0))
     ∙ inner-zeros (n + n) w
 
 -- one position more adds the inner product with its rotation
-pub inner-product-more : (key : List ℤ) (n c : ℕ) (challenge : List ℕ) (w : List ℤ) → innerProduct (product key n (c ∷ challenge)) w ≡ innerProduct (product key n (c ∷ [])) w +ℤ innerProduct (product key n challenge) w
+pub inner-product-more : (key : List ℤ) (n c : ℕ) (challenge : List ℕ) (w : List ℤ)
+    → innerProduct (product key n (c ∷ challenge)) w ≡ innerProduct (product key n (c ∷ [])) w +ℤ innerProduct (product key n challenge) w
 inner-product-more key n c challenge w =
     ap (λ (l : List ℤ). innerProduct l w) (product-plus key n c challenge)
     ∙ inner-plus (product key n (c ∷ [])) (product key n challenge) w (length-product key n (c ∷ []) ∙ sym (length-product key n challenge))

@@ -14,12 +14,14 @@ module _ (n : ℕ) (key : List ℤ) (count : ℕ) where
   pub answer-refused : {refusal : ℕ} → 0 < refusal → refusal ≡ keyRefusal n key count → answer refusal 0 ≡ keyAnswer n key count
   unfolding keyAnswer
   answer-refused {refusal} h e =
-      ap₂ answer e (sym (ap (λ (b : Bool). cond b (natAbs (finalSum key n count)) 0) (ne-eqb (keyRefusal n key count) 0 (λ z. omega (arith, z)))))
+      ap₂ answer e (sym (ap (λ (b : Bool). cond b (natAbs (finalSum key n count)) 0)
+      (ne-eqb (keyRefusal n key count) 0 (λ z. omega (arith, z)))))
 
   pub answer-passed : (sum : ℕ) → pos sum ≡ finalSum key n count → 0 ≡ keyRefusal n key count → answer 0 sum ≡ keyAnswer n key count
   unfolding keyAnswer
   answer-passed sum s e =
-      ap₂ answer e (ap natAbs s ∙ sym (ap (λ (b : Bool). cond b (natAbs (finalSum key n count)) 0) (eq-eqb (keyRefusal n key count) 0 (sym e))))
+      ap₂ answer e (ap natAbs s ∙ sym (ap (λ (b : Bool). cond b (natAbs (finalSum key n count)) 0)
+      (eq-eqb (keyRefusal n key count) 0 (sym e))))
 
   -- the test of the sum, as the code makes it
   pub sum-tested : (sum : ℕ) → pos sum ≡ finalSum key n count → leZ (finalSum key n count) (pos 46225) ≡ leb sum 46225

@@ -28,8 +28,10 @@ length-most : (n count : ℕ) → isLength n count ≡ true → count ≤ n
 length-most n count e =
     leb-true count n (both-true (leb count 64) (leb count n) (both-true (ltb 0 count) (lengthFits n count) e .1) .1)
 
-fails-over : (key : List ℤ) (n count : ℕ) → count ≤ n → FailsWhere (leZ (finalSum key n count) (pos 46225)) (46225 < natAbs (finalSum key n count))
-fails-over key n count h = rw (ap (λ (z : ℤ). leZ z (pos 46225)) (never-negative key n count h)) (fails-above (natAbs (finalSum key n count)) 46225)
+fails-over : (key : List ℤ) (n count : ℕ) → count ≤ n
+    → FailsWhere (leZ (finalSum key n count) (pos 46225)) (46225 < natAbs (finalSum key n count))
+fails-over key n count h = rw (ap (λ (z : ℤ). leZ z (pos 46225)) (never-negative key n count h))
+    (fails-above (natAbs (finalSum key n count)) 46225)
 
 pub key-refuses-first : KeyRefusesFirst
 unfolding keyAnswer keyRefusal
@@ -47,6 +49,7 @@ passed-length n key count e = passes 6 (keyTests n key count) refl e
 pub answers-with-the-sum : AnswersWithTheSum
 unfolding keyAnswer
 answers-with-the-sum n key count = record {
-  passed = λ e. rw (eq-eqb (keyRefusal n key count) 0 e) (sym (never-negative key n count (length-most n count (passed-length n key count e))));
+  passed = λ e. rw (eq-eqb (keyRefusal n key count) 0 e)
+      (sym (never-negative key n count (length-most n count (passed-length n key count e))));
   refused = λ h. rw (ne-eqb (keyRefusal n key count) 0 h);
 }

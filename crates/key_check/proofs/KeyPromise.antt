@@ -15,7 +15,8 @@ use Rattle.checks.proofs.JoinedTests.{both-true}
 use Rattle.checks.proofs.AllBelow.{all-at}
 use Rattle.checks.proofs.Lines.{numbered, testOf, passes}
 use Rattle.largest.specs.Largest.{sumAt, areDifferent}
-use Rattle.largest.proofs.LargestSum.{at-most, places-more}
+use Rattle.largest.proofs.Places.{places-more}
+use Rattle.largest.proofs.LargestSum.{at-most}
 use Rattle.challenge.specs.Challenge.{lengthFits, positionsBelow, ascends, arePositions, isChallenge}
 use Rattle.challenge.proofs.Positions.{position-below}
 use Rattle.challenge_product.specs.Product.{product}

@@ -35,7 +35,8 @@ pub record Summed (key : List ℤ) (a b : ℕ) (sum : ℤ) (p : ℕ) : Type 0 wh
 module _ (key : List ℤ) (a b : ℕ) (small : allWithin keyBound key ≡ true) where
   pub product-small : (p : ℕ) → natAbs (productAt key a b p) ≤ 49
   product-small p =
-      rw (abs-mul (getD key (a + p) (pos 0)) (getD key (b + p) (pos 0))) (mul-le-mul (within-at 7 key small (a + p)) (within-at 7 key small (b + p)))
+      rw (abs-mul (getD key (a + p) (pos 0)) (getD key (b + p) (pos 0)))
+      (mul-le-mul (within-at 7 key small (a + p)) (within-at 7 key small (b + p)))
 
   pub summed-none : Summed key a b (pos 0) 0
   summed-none = record { total = sym (sumTo-none (productAt key a b)); few = omega arith }
@@ -53,7 +54,8 @@ unfolding sumTo
 sumTo-split f c zero = let none : c + 0 ≡ c = omega arith in ap (sumTo f) none ∙ sym (+ℤ-idr (sumTo f c))
 sumTo-split f c (suc m) =
     let more : c + suc m ≡ suc (c + m) = omega arith in
-    ap (sumTo f) more ∙ ap (λ (x : ℤ). x +ℤ f (c + m)) (sumTo-split f c m) ∙ +ℤ-assoc (sumTo f c) (sumTo (λ (p : ℕ). f (c + p)) m) (f (c + m))
+    ap (sumTo f) more ∙ ap (λ (x : ℤ). x +ℤ f (c + m)) (sumTo-split f c m)
+    ∙ +ℤ-assoc (sumTo f c) (sumTo (λ (p : ℕ). f (c + p)) m) (f (c + m))
 
 module _ (key : List ℤ) (n base c : ℕ) (h : c < n) where
   at : ℕ → ℤ
@@ -75,13 +77,15 @@ module _ (key : List ℤ) (n base c : ℕ) (h : c < n) where
       (term-direct key n base (c + p) c (omega arith) ∙ ap at (omega arith))
       (term-direct key n base (c + p) 0 (omega arith) ∙ ap at (omega arith))
 
-  pub half-by-stretches : sumTo (productAt key base (base + c)) (n - c) -ℤ sumTo (productAt key (base + (n - c)) base) c ≡ sumTo (terms key n base c 0) n
+  pub half-by-stretches : sumTo (productAt key base (base + c)) (n - c) -ℤ sumTo (productAt key (base + (n - c)) base) c ≡ sumTo
+      (terms key n base c 0) n
   half-by-stretches =
       let behind = sumTo (productAt key base (base + c)) (n - c) in
       let before = sumTo (productAt key (base + (n - c)) base) c in
       +ℤ-comm behind (negℤ before)
       ∙ sym (ap₂ (λ (x y : ℤ). x +ℤ y)
-      (sumTo-same (terms key n base c 0) (λ (p : ℕ). negℤ (productAt key (base + (n - c)) base p)) c wrapped ∙ sumTo-neg (productAt key (base + (n - c)) base) c)
+      (sumTo-same (terms key n base c 0) (λ (p : ℕ). negℤ (productAt key (base + (n - c)) base p)) c wrapped
+      ∙ sumTo-neg (productAt key (base + (n - c)) base) c)
       (sumTo-same (λ (p : ℕ). terms key n base c 0 (c + p)) (productAt key base (base + c)) (n - c) (λ p g. direct p)))
       ∙ sym (sumTo-split (terms key n base c 0) c (n - c))
       ∙ ap (sumTo (terms key n base c 0)) (omega arith)

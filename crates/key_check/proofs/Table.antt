@@ -21,28 +21,33 @@ unfolding sumAt
 sum-same f g [] e = refl
 sum-same f g (p ∷ places) e = ap₂ (λ (a b : ℤ). a +ℤ b) (e p) (sum-same f g places e)
 
-inner-rotations : (key : List ℤ) (n : ℕ) (challenge : List ℕ) (w : List ℤ) → innerProduct (product key n challenge) w ≡ sumAt (λ (i : ℕ). innerProduct (rotation key n i) w) challenge
+inner-rotations : (key : List ℤ) (n : ℕ) (challenge : List ℕ) (w : List ℤ)
+    → innerProduct (product key n challenge) w ≡ sumAt (λ (i : ℕ). innerProduct (rotation key n i) w) challenge
 unfolding sumAt rotation
 inner-rotations key n [] w = inner-product-none key n w
 inner-rotations key n (c ∷ challenge) w =
-    inner-product-more key n c challenge w ∙ ap (λ (z : ℤ). innerProduct (product key n (c ∷ [])) w +ℤ z) (inner-rotations key n challenge w)
+    inner-product-more key n c challenge w
+    ∙ ap (λ (z : ℤ). innerProduct (product key n (c ∷ [])) w +ℤ z) (inner-rotations key n challenge w)
 
 pub symmetric : (key : List ℤ) (n i j : ℕ) → table key n i j ≡ table key n j i
 unfolding table
 symmetric key n i j = inner-comm (rotation key n i) (rotation key n j)
 
-pub squares-are : (key : List ℤ) (n : ℕ) (challenge : List ℕ) → pos (squareSum (product key n challenge)) ≡ sumAt (λ (i : ℕ). sumAt (table key n i) challenge) challenge
+pub squares-are : (key : List ℤ) (n : ℕ) (challenge : List ℕ)
+    → pos (squareSum (product key n challenge)) ≡ sumAt (λ (i : ℕ). sumAt (table key n i) challenge) challenge
 unfolding table
 squares-are key n challenge =
     sym (squares-inner (product key n challenge))
     ∙ inner-rotations key n challenge (product key n challenge)
-    ∙ sum-same (λ (i : ℕ). innerProduct (rotation key n i) (product key n challenge)) (λ (i : ℕ). sumAt (table key n i) challenge) challenge row
+    ∙ sum-same (λ (i : ℕ). innerProduct (rotation key n i) (product key n challenge))
+    (λ (i : ℕ). sumAt (table key n i) challenge) challenge row
   where
     row : (i : ℕ) → innerProduct (rotation key n i) (product key n challenge) ≡ sumAt (table key n i) challenge
     row i =
         inner-comm (rotation key n i) (product key n challenge)
         ∙ inner-rotations key n challenge (rotation key n i)
-        ∙ sum-same (λ (j : ℕ). innerProduct (rotation key n j) (rotation key n i)) (table key n i) challenge (λ j. inner-comm (rotation key n j) (rotation key n i))
+        ∙ sum-same (λ (j : ℕ). innerProduct (rotation key n j) (rotation key n i)) (table key n i) challenge
+        (λ j. inner-comm (rotation key n j) (rotation key n i))
 
 -- ** Entries as sums of terms
 
@@ -61,13 +66,17 @@ unfolding sumTo
 sumTo-neg f zero = refl
 sumTo-neg f (suc n) = ap (λ (z : ℤ). z +ℤ negℤ (f n)) (sumTo-neg f n) ∙ sym (negℤ-+ℤ (sumTo f n) (f n))
 
-inner-halves : (key : List ℤ) (n base i j p count : ℕ) → innerProduct (outputsFrom key n base (i ∷ []) p count) (outputsFrom key n base (j ∷ []) p count) ≡ sumTo (λ (t : ℕ). terms key n base i j (p + t)) count
+inner-halves : (key : List ℤ) (n base i j p count : ℕ)
+    → innerProduct (outputsFrom key n base (i ∷ []) p count) (outputsFrom key n base (j ∷ []) p count)
+    ≡ sumTo (λ (t : ℕ). terms key n base i j (p + t)) count
 unfolding outputsFrom innerProduct outputAt sumTo
 inner-halves key n base i j p zero = refl
 inner-halves key n base i j p (suc count) =
     ap₂ (λ (a b : ℤ). a +ℤ b)
     (ap₂ (λ (a b : ℤ). a *ℤ b) (+ℤ-idr (termAt key n base p i)) (+ℤ-idr (termAt key n base p j)) ∙ ap (terms key n base i j) (plus-0 p))
-    (inner-halves key n base i j (suc p) count ∙ sumTo-same (λ (t : ℕ). terms key n base i j (suc p + t)) (λ (t : ℕ). terms key n base i j (p + suc t)) count (λ t h. ap (terms key n base i j) (plus-suc p t)))
+    (inner-halves key n base i j (suc p) count
+    ∙ sumTo-same (λ (t : ℕ). terms key n base i j (suc p + t)) (λ (t : ℕ). terms key n base i j (p + suc t)) count
+    (λ t h. ap (terms key n base i j) (plus-suc p t)))
     ∙ sym (sumTo-front (λ (t : ℕ). terms key n base i j (p + t)) count)
   where
     plus-0 : (a : ℕ) → a ≡ a + 0
@@ -76,9 +85,11 @@ inner-halves key n base i j p (suc count) =
     plus-suc : (a t : ℕ) → suc a + t ≡ a + suc t
     plus-suc a t = omega arith
 
-half-is : (key : List ℤ) (n base i j count : ℕ) → innerProduct (outputsFrom key n base (i ∷ []) 0 count) (outputsFrom key n base (j ∷ []) 0 count) ≡ sumTo (terms key n base i j) count
+half-is : (key : List ℤ) (n base i j count : ℕ)
+    → innerProduct (outputsFrom key n base (i ∷ []) 0 count) (outputsFrom key n base (j ∷ []) 0 count) ≡ sumTo (terms key n base i j) count
 half-is key n base i j count =
-    inner-halves key n base i j 0 count ∙ sumTo-same (λ (t : ℕ). terms key n base i j (0 + t)) (terms key n base i j) count (λ t h. ap (terms key n base i j) (zero-plus t))
+    inner-halves key n base i j 0 count ∙ sumTo-same (λ (t : ℕ). terms key n base i j (0 + t)) (terms key n base i j) count
+    (λ t h. ap (terms key n base i j) (zero-plus t))
   where
     zero-plus : (t : ℕ) → 0 + t ≡ t
     zero-plus t = omega arith
@@ -86,18 +97,22 @@ half-is key n base i j count =
 pub table-is : (key : List ℤ) (n i j : ℕ) → table key n i j ≡ sumTo (terms key n 0 i j) n +ℤ sumTo (terms key n n i j) n
 unfolding table rotation product
 table-is key n i j =
-    inner-append (outputsFrom key n 0 (i ∷ []) 0 n) (outputsFrom key n 0 (j ∷ []) 0 n) (outputsFrom key n n (i ∷ []) 0 n) (outputsFrom key n n (j ∷ []) 0 n) (length-outputsFrom key n 0 (i ∷ []) 0 n ∙ sym (length-outputsFrom key n 0 (j ∷ []) 0 n))
+    inner-append (outputsFrom key n 0 (i ∷ []) 0 n) (outputsFrom key n 0 (j ∷ []) 0 n) (outputsFrom key n n (i ∷ []) 0 n)
+    (outputsFrom key n n (j ∷ []) 0 n) (length-outputsFrom key n 0 (i ∷ []) 0 n ∙ sym (length-outputsFrom key n 0 (j ∷ []) 0 n))
     ∙ ap₂ (λ (a b : ℤ). a +ℤ b) (half-is key n 0 i j n) (half-is key n n i j n)
 
 -- ** One row more
 
-half-shifts : (key : List ℤ) (m base i j : ℕ) → i ≤ m → j ≤ m → sumTo (terms key (suc m) base (suc i) (suc j)) (suc m) ≡ sumTo (terms key (suc m) base i j) (suc m)
+half-shifts : (key : List ℤ) (m base i j : ℕ) → i ≤ m → j ≤ m
+    → sumTo (terms key (suc m) base (suc i) (suc j)) (suc m) ≡ sumTo (terms key (suc m) base i j) (suc m)
 unfolding sumTo
 half-shifts key m base i j a b =
     sumTo-front (terms key (suc m) base (suc i) (suc j)) m
     ∙ ap₂ (λ (x y : ℤ). x +ℤ y)
-    (ap₂ (λ (x y : ℤ). x *ℤ y) (term-wraps key m base i a) (term-wraps key m base j b) ∙ neg-neg-*ℤ (termAt key (suc m) base m i) (termAt key (suc m) base m j))
-    (sumTo-same (λ (p : ℕ). terms key (suc m) base (suc i) (suc j) (suc p)) (terms key (suc m) base i j) m (λ p g. ap₂ (λ (x y : ℤ). x *ℤ y) (term-on key (suc m) base p i) (term-on key (suc m) base p j)))
+    (ap₂ (λ (x y : ℤ). x *ℤ y) (term-wraps key m base i a) (term-wraps key m base j b)
+    ∙ neg-neg-*ℤ (termAt key (suc m) base m i) (termAt key (suc m) base m j))
+    (sumTo-same (λ (p : ℕ). terms key (suc m) base (suc i) (suc j) (suc p)) (terms key (suc m) base i j) m
+    (λ p g. ap₂ (λ (x y : ℤ). x *ℤ y) (term-on key (suc m) base p i) (term-on key (suc m) base p j)))
     ∙ +ℤ-comm (terms key (suc m) base i j m) (sumTo (terms key (suc m) base i j) m)
 
 -- T(i + 1, j + 1) is T(i, j), also where i + 1 or j + 1 is n
@@ -105,7 +120,8 @@ pub table-on : (key : List ℤ) (n i j : ℕ) → i < n → j < n → table key 
 table-on key zero i j a b = absurd (omega arith)
 table-on key (suc m) i j a b =
     table-is key (suc m) (suc i) (suc j)
-    ∙ ap₂ (λ (x y : ℤ). x +ℤ y) (half-shifts key m 0 i j (omega arith) (omega arith)) (half-shifts key m (suc m) i j (omega arith) (omega arith))
+    ∙ ap₂ (λ (x y : ℤ). x +ℤ y) (half-shifts key m 0 i j (omega arith) (omega arith))
+    (half-shifts key m (suc m) i j (omega arith) (omega arith))
     ∙ sym (table-is key (suc m) i j)
 
 *-neg : (a b : ℤ) → a *ℤ negℤ b ≡ negℤ (a *ℤ b)
@@ -113,7 +129,9 @@ table-on key (suc m) i j a b =
 
 half-turned : (key : List ℤ) (n base i : ℕ) → sumTo (terms key n base i n) n ≡ negℤ (sumTo (terms key n base i 0) n)
 half-turned key n base i =
-    sumTo-same (terms key n base i n) (λ (p : ℕ). negℤ (terms key n base i 0 p)) n (λ p h. ap (λ (z : ℤ). termAt key n base p i *ℤ z) (term-turned key n base p h) ∙ *-neg (termAt key n base p i) (termAt key n base p 0))
+    sumTo-same (terms key n base i n) (λ (p : ℕ). negℤ (terms key n base i 0 p)) n
+    (λ p h. ap (λ (z : ℤ). termAt key n base p i *ℤ z) (term-turned key n base p h)
+    ∙ *-neg (termAt key n base p i) (termAt key n base p 0))
     ∙ sumTo-neg (terms key n base i 0) n
 
 -- T(i, n) is minus T(i, 0)

@@ -79,7 +79,11 @@ module _ (f : ℕ → ℤ) (n k : ℕ) where
   -- ** The end
 
   pub bracket-end : (t : ℤ) (width : ℕ) → Bracket f n k t width → width ≤ 1 → IsKth f n k t
-  bracket-end t width b h = record { enough = b .enough; over = subst (λ (w : ℕ). sumOver (reaches (t +ℤ pos w)) f n < k) (by (b .exponent) (b .power)) (b .over) }
+  bracket-end t width b h = record {
+    enough = b .enough;
+    over = subst (λ (w : ℕ). sumOver (reaches (t +ℤ pos w)) f n < k)
+        (by (b .exponent) (b .power)) (b .over);
+  }
     where
       by : (e : ℕ) → width ≡ 2 ^ e → width ≡ 1
       by zero p = p

@@ -64,14 +64,16 @@ insert-more (suc k) x [] h = absurd (omega arith)
 insert-more (suc k) x (y ∷ values) h = le-sum (le-larger′ x y) (insert-more k (smaller x y) values (omega arith))
 
 -- x with the first k of a list is at most the first k + 1 once x is in it
-pub insert-with : (k : ℕ) (x : ℤ) (values : List ℤ) → k ≤ length values → Le (x +ℤ total (take k values)) (total (take (suc k) (insert x values)))
+pub insert-with : (k : ℕ) (x : ℤ) (values : List ℤ) → k ≤ length values
+    → Le (x +ℤ total (take k values)) (total (take (suc k) (insert x values)))
 unfolding insert total
 insert-with zero x [] h = le-same (x +ℤ pos 0)
 insert-with zero x (y ∷ values) h = le-sum (le-larger x y) (le-same (pos 0))
 insert-with (suc k) x [] h = absurd (omega arith)
 insert-with (suc k) x (y ∷ values) h =
     le-then
-    (le-is (sym (+ℤ-assoc x y (total (take k values))) ∙ ap (λ (z : ℤ). z +ℤ total (take k values)) (both x y) ∙ +ℤ-assoc (larger x y) (smaller x y) (total (take k values))))
+    (le-is (sym (+ℤ-assoc x y (total (take k values))) ∙ ap (λ (z : ℤ). z +ℤ total (take k values)) (both x y)
+    ∙ +ℤ-assoc (larger x y) (smaller x y) (total (take k values))))
     (le-sum (le-same (larger x y)) (insert-with k (smaller x y) values (omega arith)))
 
 -- ** Sizes
@@ -80,7 +82,8 @@ pick-small : (t : Bool) (x y : ℤ) (B : ℕ) → natAbs x ≤ B → natAbs y �
 pick-small true x y B f g = f
 pick-small false x y B f g = g
 
-insert-small : (B : ℕ) (x : ℤ) (l : List ℤ) → natAbs x ≤ B → ((i : ℕ) → natAbs (getD l i (pos 0)) ≤ B) → (i : ℕ) → natAbs (getD (insert x l) i (pos 0)) ≤ B
+insert-small : (B : ℕ) (x : ℤ) (l : List ℤ) → natAbs x ≤ B → ((i : ℕ) → natAbs (getD l i (pos 0)) ≤ B) → (i : ℕ)
+    → natAbs (getD (insert x l) i (pos 0)) ≤ B
 unfolding insert
 insert-small B x [] h a zero = h
 insert-small B x [] h a (suc i) = omega arith

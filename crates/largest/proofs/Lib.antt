@@ -1,4 +1,5 @@
 pub mod Falling
+pub mod Places
 pub mod LargestSum
 pub mod Threshold
 pub mod Excess

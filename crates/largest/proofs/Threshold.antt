@@ -146,7 +146,8 @@ module _ (t : ℤ) where
   unfolding Falls sumOf
   later-over v values k h e = by (leZ (t +ℤ pos 1) v) refl e
     where
-      by : (r : Bool) → leZ (t +ℤ pos 1) v ≡ r → cond r 1 0 + sumOf (reaches (t +ℤ pos 1)) values ≤ suc k → sumOf (reaches (t +ℤ pos 1)) values ≤ k
+      by : (r : Bool) → leZ (t +ℤ pos 1) v ≡ r → cond r 1 0 + sumOf (reaches (t +ℤ pos 1)) values ≤ suc k
+          → sumOf (reaches (t +ℤ pos 1)) values ≤ k
       by true f g = omega arith
       by false f g = omega (arith, h .0 (t +ℤ pos 1) f)
 

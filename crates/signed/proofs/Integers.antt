@@ -1,6 +1,6 @@
 -- Laws of ℤ that lib.IntN lacks: distributivity, signs of products, an order with its sums. Assumes nothing.
 use mathlib.Core.Path.{_≡_, refl, sym, ap, ap₂, _∙_}
-use mathlib.Core.Bool.{Bool, true, false, cond}
+use mathlib.Core.Bool.{Bool, true, false, cond, false≢true}
 use Prim.Native.Nat.{ℕ, zero, suc, _+_, _-_, _*_, _≤_, _<_}
 use native.Mathlib.Omega.{arith}
 use lib.Dec.{ltb}
@@ -27,9 +27,6 @@ pub +-*ℤ : (m k c : ℤ) → (m +ℤ k) *ℤ c ≡ m *ℤ c +ℤ k *ℤ c
     ∙ ap (λ (x : ℤ). x +ℤ negℤ c) (+-*ℤ m (negsuc n) c)
     ∙ +ℤ-assoc (m *ℤ c) (negsuc n *ℤ c) (negℤ c)
     ∙ ap (λ (x : ℤ). m *ℤ c +ℤ x) (sym (predℤ-*ℤ (negsuc n) c))
-
-pub *-+ℤ : (c m k : ℤ) → c *ℤ (m +ℤ k) ≡ c *ℤ m +ℤ c *ℤ k
-*-+ℤ c m k = *ℤ-comm c (m +ℤ k) ∙ +-*ℤ m k c ∙ ap₂ (λ (x y : ℤ). x +ℤ y) (*ℤ-comm m c) (*ℤ-comm k c)
 
 -- (a + b) + (c + d) = (a + c) + (b + d)
 pub +ℤ-mix : (a b c d : ℤ) → (a +ℤ b) +ℤ (c +ℤ d) ≡ (a +ℤ c) +ℤ (b +ℤ d)
@@ -112,6 +109,12 @@ test-of-le (negsuc a) b h = ap (λ (z : ℤ). leZ (negsuc a) z) (h .is) ∙ by (
     by : (m : ℕ) (t : Bool) → ltb m (suc a) ≡ t → leZ (negsuc a) (cond t (negsuc (suc a - suc m)) (pos (m - suc a))) ≡ true
     by m true e = le-leb (suc a - suc m) a (omega arith)
     by m false e = refl
+
+pub same-of-tests : (a b : ℤ) → leZ a b ≡ true → leZ b a ≡ true → a ≡ b
+same-of-tests (pos a) (pos b) h g = ap pos (omega (arith, leb-true a b h, leb-true b a g))
+same-of-tests (pos a) (negsuc b) h g = absurd (false≢true h)
+same-of-tests (negsuc a) (pos b) h g = absurd (false≢true g)
+same-of-tests (negsuc a) (negsuc b) h g = ap negsuc (omega (arith, leb-true b a h, leb-true a b g))
 
 -- what is at least 0 is its own size
 pub size-of-le : (a : ℤ) → Le (pos 0) a → a ≡ pos (natAbs a)

@@ -56,7 +56,8 @@ returns : tie.Need-returns
 unfolding from
 returns c =
     let t = c .before in
-    c .refuse .ensures ∙ answer-refused _ _ _ (omega arith) (leaves (from-1 (t .before)) (fails (t .before .is-degree .ensures) (t .if1 .taken)))
+    c .refuse .ensures ∙ answer-refused _ _ _ (omega arith)
+    (leaves (from-1 (t .before)) (fails (t .before .is-degree .ensures) (t .if1 .taken)))
 
 degree : (c : tie.Else1) → isDegree (behind-1 c .args .n) ≡ true
 degree c = holds (c .before .is-degree .ensures) (c .if1 .left)
@@ -167,7 +168,8 @@ returns-6 : tie.Need-returns-6
 unfolding from firstRefusal
 returns-6 c =
     let f = c .before .final-sum in
-    let last = goes-on (from-13 (c .before .before)) (sum-tested _ _ _ (f .result) (f .ensures) ∙ le-leb (f .result) 46225 (c .if5 .left)) in
+    let last = goes-on (from-13 (c .before .before))
+    (sum-tested _ _ _ (f .result) (f .ensures) ∙ le-leb (f .result) 46225 (c .if5 .left)) in
     answer-passed _ _ _ (f .result) (f .ensures) (sym (last .told))
 
 pub check-key-spec : {M : Type 1} → statement M

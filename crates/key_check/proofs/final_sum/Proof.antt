@@ -7,8 +7,6 @@ use lib.IntN.{pos, natAbs}
 use mir.Syntax.{w32}
 use mir.Val.{toZ, ofZ}
 use Rattle.signed.proofs.Signs.{read-back}
-use Rattle.largest.specs.Largest.{largestSum}
-use Rattle.largest.specs.Threshold.{valueAt}
 use Rattle.key_check.specs.KeyCheck.{rowSum, finalSum}
 use Rattle.key_check.specs.Rows.{Holds, rowSumBound, HoldsRow}
 use Rattle.key_check.proofs.RowsHeld.{holds-none, holds-more, in-range, next-row, row-sum, final-sum}
@@ -79,18 +77,28 @@ add-i c = search needs
 loop-less : tie.Need-loop-less Inv-loop μ-loop
 loop-less c = search needs
 
+sum-of-row : (c : tie.After-largest-sum Inv-loop μ-loop) → let l = turn c .before in let a = start l .args in
+    (toZ w32 (ofZ w32 (c .largest-sum .result)) ≡ rowSum (a .key .now) (a .n) (a .count) (l .loop .i))
+    × (natAbs (toZ w32 (ofZ w32 (c .largest-sum .result))) ≤ rowSumBound)
+sum-of-row c =
+    let l = turn c .before in
+    let s = start l in
+    let sum = row-sum (s .args .key .now) (s .args .n) (s .args .count) (s .pre .3) (l .loop .i) (l .loop .row) (l .loop .inv .1) in
+    let is = read-back (record { sfits = c .largest-sum .ok }) ∙ c .largest-sum .ensures in
+    (is ∙ sum .0, rw is (sum .1))
+
 loop-again : tie.Need-loop-again Inv-loop μ-loop
 loop-again c =
-    let n = c .before in
-    let m = summed (n .before) in
+    let moved = c .before in
+    let m = summed (moved .before) in
     let l = turn m .before in
     let s = start l in
-    let below = turn m .loop-test .taken in
-    let sum = row-sum (s .args .key .now) (s .args .n) (s .args .count) (s .pre .3) (l .loop .i) (l .loop .row) (l .loop .inv .1) in
-    let is : toZ w32 (ofZ w32 (m .largest-sum .result)) ≡ largestSum (valueAt (l .loop .row)) (s .args .n) (s .args .count) = read-back (record { sfits = m .largest-sum .ok }) ∙ m .largest-sum .ensures in (
+    let below = turn m .loop-test .taken in (
       omega arith,
-      next-row (s .args .key .now) (s .args .n) (l .loop .i) (l .loop .row) (n .next-row .last .0) below (l .loop .inv .1) (n .next-row .ensures),
-      holds-more (rowSum (s .args .key .now) (s .args .n) (s .args .count)) rowSumBound (l .loop .sums) _ (l .loop .i) (l .loop .inv .2) (omega (arith, below, s .pre .0 .most)) (is ∙ sum .0) (rw is (sum .1)),
+      next-row (s .args .key .now) (s .args .n) (l .loop .i) (l .loop .row) (moved .next-row .last .0) below (l .loop .inv .1)
+          (moved .next-row .ensures),
+      holds-more (rowSum (s .args .key .now) (s .args .n) (s .args .count)) rowSumBound (l .loop .sums) _ (l .loop .i) (l .loop .inv .2)
+          (omega (arith, below, s .pre .0 .most)) (sum-of-row m .0) (sum-of-row m .1),
     )
 
 -- ** The end

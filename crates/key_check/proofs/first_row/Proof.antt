@@ -56,7 +56,8 @@ mul-entry : tie.Need-mul-entry Inv-loop μ-loop
 mul-entry c = search needs
 
 slice-set-from-entry : tie.Need-slice-set-from-entry Inv-loop μ-loop
-slice-set-from-entry c = let l = turn (halves c) .before in omega (arith, turn (halves c) .loop-test .taken, l .loop .inv .1 .size, start l .pre .0 .most)
+slice-set-from-entry c = let l = turn (halves c) .before in omega
+    (arith, turn (halves c) .loop-test .taken, l .loop .inv .1 .size, start l .pre .0 .most)
 
 add-j : tie.Need-add-j Inv-loop μ-loop
 add-j c = search needs
@@ -71,11 +72,15 @@ loop-again c =
     let s = start l in
     let first = halves c .before .half-inner in
     let second = halves c .half-inner2 in
-    let sum : toZ w32 (ofZ w32 (c .plus .result)) ≡ first .result +ℤ second .result = read-back (record { sfits = c .plus .ok }) ∙ c .plus .ensures ∙ rw (first-back (halves c), second-back (halves c)) in (
+    let sum : toZ w32 (ofZ w32 (c .plus .result)) ≡ first .result +ℤ second .result = read-back (record { sfits = c .plus .ok })
+    ∙ c .plus .ensures ∙ rw (first-back (halves c), second-back (halves c)) in (
       omega arith,
-      holds-more (table (s .args .key .now) (s .args .n) 0) entryBound (l .loop .row) _ (l .loop .j) (l .loop .inv .1) (omega (arith, s .pre .0 .most, t .loop-test .taken))
-          (sum ∙ entry-is (s .args .key .now) (s .args .n) (l .loop .j) (first .result) (second .result) (first .ensures .0) (second .ensures .0))
-          (rw sum (entry-small (s .args .key .now) (s .args .n) (first .result) (second .result) (first .ensures .1) (second .ensures .1) (s .pre .0 .most))),
+      holds-more (table (s .args .key .now) (s .args .n) 0) entryBound (l .loop .row) _ (l .loop .j) (l .loop .inv .1)
+          (omega (arith, s .pre .0 .most, t .loop-test .taken))
+          (sum ∙ entry-is (s .args .key .now) (s .args .n) (l .loop .j) (first .result) (second .result) (first .ensures .0)
+          (second .ensures .0))
+          (rw sum (entry-small (s .args .key .now) (s .args .n) (first .result) (second .result) (first .ensures .1) (second .ensures .1)
+          (s .pre .0 .most))),
     )
 
 same-length : tie.Need-same-length Inv-loop μ-loop

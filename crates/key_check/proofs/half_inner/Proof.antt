@@ -51,12 +51,24 @@ module _ (c : tie.After-stretch2) where
 
   difference-is : toZ w32 (ofZ w32 (direct c .stretch .result)) -ℤ toZ w32 (ofZ w32 (c .stretch2 .result)) ≡ taken
   difference-is =
-      rw (read-back {z = direct c .stretch .result} (record { sfits = direct c .stretch .ok }), read-back {z = c .stretch2 .result} (record { sfits = c .stretch2 .ok }))
+      rw (
+        read-back {z = direct c .stretch .result} (record { sfits = direct c .stretch .ok }),
+        read-back {z = c .stretch2 .result}
+            (record { sfits = c .stretch2 .ok }),
+      )
 
   small : natAbs taken ≤ 49 * start (direct c) .args .n
   small =
       let s = start (direct c) in
-      omega (arith, direct c .stretch .ensures .1, c .stretch2 .ensures .1, s .pre .2, abs-add (direct c .stretch .result) (negℤ (c .stretch2 .result)), abs-neg (c .stretch2 .result))
+      omega (
+        arith,
+        direct c .stretch .ensures .1,
+        c .stretch2 .ensures .1,
+        s .pre .2,
+        abs-add (direct c .stretch .result)
+            (negℤ (c .stretch2 .result)),
+        abs-neg (c .stretch2 .result),
+      )
 
   fits : SFits w32 taken
   fits = fits-of-abs (omega (arith, small, start (direct c) .pre .0 .most))
@@ -67,8 +79,11 @@ sub-result c = rw (difference-is c) (fits c)
 returns : tie.Need-returns
 returns c =
     let a = start (direct c) .args in
-    rw (difference-is c, read-back (fits c))
-    (ap₂ (λ (x y : ℤ). x -ℤ y) (direct c .stretch .ensures .0) (c .stretch2 .ensures .0) ∙ half-by-stretches (a .key .now) (a .n) (a .base) (a .c) (start (direct c) .pre .2), small c)
+    rw (difference-is c, read-back (fits c)) (
+      ap₂ (λ (x y : ℤ). x -ℤ y) (direct c .stretch .ensures .0) (c .stretch2 .ensures .0)
+          ∙ half-by-stretches (a .key .now) (a .n) (a .base) (a .c) (start (direct c) .pre .2),
+      small c,
+    )
 
 pub half-inner-spec : {M : Type 1} → statement M
 half-inner-spec =

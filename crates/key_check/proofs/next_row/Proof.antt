@@ -42,7 +42,8 @@ last-back : (c : tie.After-last Inv-loop μ-loop) → let a = c .before .args in
 last-back c = read-back (sfits-of (c .last .given))
 
 sub-minus : tie.Need-sub-minus Inv-loop μ-loop
-sub-minus c = zero-minus-fits (toZ w32 (ofZ w32 (getD (c .before .args .row .now) (c .before .args .n - 1) (pos 0)))) (rw (last-back c) (omega (arith, c .before .pre .2)))
+sub-minus c = zero-minus-fits (toZ w32 (ofZ w32 (getD (c .before .args .row .now) (c .before .args .n - 1) (pos 0))))
+    (rw (last-back c) (omega (arith, c .before .pre .2)))
 
 loop-holds : tie.Need-loop-holds Inv-loop μ-loop
 loop-holds c =
@@ -82,7 +83,8 @@ returns : tie.Need-returns Inv-loop μ-loop
 returns c =
     let l = c .before in
     let s = start l in
-    moving-done (s .args .n) (s .args .row .now) (s .pre .1) (l .loop .row) (toZ w32 (l .loop .carried)) (l .loop .j) (l .loop .inv) (c .loop-test .left)
+    moving-done (s .args .n) (s .args .row .now) (s .pre .1) (l .loop .row) (toZ w32 (l .loop .carried)) (l .loop .j) (l .loop .inv)
+    (c .loop-test .left)
 
 pub next-row-spec : {M : Type 1} → statement M
 next-row-spec =

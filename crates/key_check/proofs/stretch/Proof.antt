@@ -59,7 +59,11 @@ product-is : (c : tie.After-y Inv-loop μ-loop) → let l = turn (first-read c) 
 product-is c =
     let l = turn (first-read c) in
     let a = start l .args in
-    rw (read-back {z = getD (a .key .now) (a .a + l .loop .p) (pos 0)} (sfits-of (first-read c .x .given)), read-back {z = getD (a .key .now) (a .b + l .loop .p) (pos 0)} (sfits-of (c .y .given)))
+    rw (
+      read-back {z = getD (a .key .now) (a .a + l .loop .p) (pos 0)} (sfits-of (first-read c .x .given)),
+      read-back
+          {z = getD (a .key .now) (a .b + l .loop .p) (pos 0)} (sfits-of (c .y .given)),
+    )
 
 mul-sum : tie.Need-mul-sum Inv-loop μ-loop
 mul-sum c =

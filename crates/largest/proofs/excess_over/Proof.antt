@@ -36,7 +36,11 @@ subtracted c = c .before
 
 over-is : (c : tie.After-over Inv-loop μ-loop) → let l = turn c in let a = start l .args in
     toZ w32 (ofZ w32 (valueAt (a .values .now) (l .loop .j))) -ℤ toZ w32 (ofZ w32 (a .t)) ≡ valueAt (a .values .now) (l .loop .j) -ℤ a .t
-over-is c = rw (read-back {z = valueAt (start (turn c) .args .values .now) (turn c .loop .j)} (sfits-of (c .over .given)), read-back (start (turn c) .fits .t))
+over-is c = rw (
+  read-back {z = valueAt (start (turn c) .args .values .now) (turn c .loop .j)} (sfits-of (c .over .given)),
+  read-back
+      (start (turn c) .fits .t),
+)
 
 -- ** What the code asks for
 
@@ -50,14 +54,16 @@ shared-slice-copy-out-over : tie.Need-shared-slice-copy-out-over Inv-loop μ-loo
 shared-slice-copy-out-over c = omega (arith, start (c .before) .pre .0 .there)
 
 sub-over : tie.Need-sub-over Inv-loop μ-loop
-sub-over c = let s = start (turn c) in rw (over-is c) (fits-of-abs (omega (arith, over-small (s .args .t) (valueAt (s .args .values .now)) (s .pre .1) (s .pre .0 .small) (turn c .loop .j))))
+sub-over c = let s = start (turn c) in rw (over-is c)
+    (fits-of-abs (omega (arith, over-small (s .args .t) (valueAt (s .args .values .now)) (s .pre .1) (s .pre .0 .small) (turn c .loop .j))))
 
 kept-requires : tie.Need-kept-requires Inv-loop μ-loop
 kept-requires c κs = search needs
 
 -- what is kept of it
 kept-is : (c : tie.After-kept Inv-loop μ-loop) → let l = turn (subtracted c) in let a = start l .args in
-    c .kept .result ≡ cond (leZ (pos 0) (valueAt (a .values .now) (l .loop .j) -ℤ a .t)) (valueAt (a .values .now) (l .loop .j) -ℤ a .t) (pos 0)
+    c .kept .result ≡ cond (leZ (pos 0) (valueAt (a .values .now) (l .loop .j) -ℤ a .t)) (valueAt (a .values .now) (l .loop .j) -ℤ a .t)
+    (pos 0)
 kept-is c =
     c .kept .ensures
     ∙ ap (λ (z : ℤ). cond (leZ (pos 0) z) z (pos 0)) (read-back (sub-over (subtracted c)) ∙ over-is (subtracted c))
@@ -82,7 +88,8 @@ summed c =
     let l = turn (subtracted c) in
     let s = start l in
     rw (read-back (cast-sum c), kept-back c)
-    (excess-more (s .args .t) (valueAt (s .args .values .now)) (s .pre .1) (s .pre .0 .small) (l .loop .j) (toZ w64 (l .loop .sum)) (c .kept .result)
+    (excess-more (s .args .t) (valueAt (s .args .values .now)) (s .pre .1) (s .pre .0 .small) (l .loop .j) (toZ w64 (l .loop .sum))
+    (c .kept .result)
     (l .loop .inv .1 ∙ ap (λ (t : ℤ). pos (sumOver (excess t) (valueAt (s .args .values .now)) (l .loop .j))) (read-back (s .fits .t)))
     (kept-is c))
 
@@ -90,7 +97,13 @@ add-sum : tie.Need-add-sum Inv-loop μ-loop
 add-sum c =
     let l = turn (subtracted c) in
     let s = start l in
-    rw (summed c) (fits-of-abs (omega (arith, s .pre .0 .few, l .loop .inv .0, excess-small (s .args .t) (valueAt (s .args .values .now)) (s .pre .1) (s .pre .0 .small) (l .loop .j + 1))))
+    rw (summed c) (fits-of-abs (omega (
+      arith,
+      s .pre .0 .few,
+      l .loop .inv .0,
+      excess-small (s .args .t) (valueAt (s .args .values .now))
+          (s .pre .1) (s .pre .0 .small) (l .loop .j + 1),
+    )))
 
 add-j : tie.Need-add-j Inv-loop μ-loop
 add-j c = search needs
@@ -101,8 +114,11 @@ loop-less c = search needs
 loop-again : tie.Need-loop-again Inv-loop μ-loop
 loop-again c =
     let l = turn (subtracted c) in
-    let s = start l in
-    (omega arith, read-back (add-sum c) ∙ summed c ∙ ap (λ (t : ℤ). pos (sumOver (excess t) (valueAt (s .args .values .now)) (l .loop .j + 1))) (sym (read-back (s .fits .t))))
+    let s = start l in (
+      omega arith,
+      read-back (add-sum c) ∙ summed c
+          ∙ ap (λ (t : ℤ). pos (sumOver (excess t) (valueAt (s .args .values .now)) (l .loop .j + 1))) (sym (read-back (s .fits .t))),
+    )
 
 returns : tie.Need-returns Inv-loop μ-loop
 returns c =

@@ -49,12 +49,14 @@ module _ (c : tie.In-loop Inv-loop μ-loop) where
 
   -- the bracket that the turn leaves
   left : (kept : ℤ) (many : ℕ) → let s = start (c .before) in
-      many ≡ sumOver (reaches (toZ w32 (ofZ w32 (toZ w32 (c .before .loop .t) +ℤ toZ w32 half)))) (valueAt (s .args .values .now)) (s .args .n)
+      many ≡ sumOver (reaches (toZ w32 (ofZ w32 (toZ w32 (c .before .loop .t) +ℤ toZ w32 half)))) (valueAt (s .args .values .now))
+      (s .args .n)
       → kept ≡ cond (leb (s .args .k) many) (toZ w32 half) (pos 0)
       → Bracket (valueAt (s .args .values .now)) (s .args .n) (s .args .k) (toZ w32 (c .before .loop .t) +ℤ kept) half
   left kept many m k =
       let s = start (c .before) in
-      let b = bracket-turn (valueAt (s .args .values .now)) (s .args .n) (s .args .k) (toZ w32 (c .before .loop .t)) (c .before .loop .width) half (c .before .loop .inv) (halved _ _ _ _ _ (c .before .loop .inv) (c .loop-test .taken)) in
+      let b = bracket-turn (valueAt (s .args .values .now)) (s .args .n) (s .args .k) (toZ w32 (c .before .loop .t))
+      (c .before .loop .width) half (c .before .loop .inv) (halved _ _ _ _ _ (c .before .loop .inv) (c .loop-test .taken)) in
       rw (k, m, read-back tried-fits, half-back) b
 
 -- ** What the code asks for
@@ -78,7 +80,8 @@ kept-requires : tie.Need-kept-requires Inv-loop μ-loop
 kept-requires c κs = search needs
 
 left-by : (c : tie.After-kept Inv-loop μ-loop) → let l = halving (counted c) .before in let s = start l in
-    Bracket (valueAt (s .args .values .now)) (s .args .n) (s .args .k) (toZ w32 (l .loop .t) +ℤ c .kept .result) (half (halving (counted c)))
+    Bracket (valueAt (s .args .values .now)) (s .args .n) (s .args .k) (toZ w32 (l .loop .t) +ℤ c .kept .result)
+    (half (halving (counted c)))
 left-by c = left (halving (counted c)) (c .kept .result) (counted c .count-from .result) (counted c .count-from .ensures) (c .kept .ensures)
 
 kept-back : (c : tie.After-kept Inv-loop μ-loop) → toZ w32 (ofZ w32 (c .kept .result)) ≡ c .kept .result

@@ -51,6 +51,9 @@ module _ (c : tie.After-excess-over) where
   product-fits : SFits w64 (pos k *ℤ t)
   product-fits = fits-of-abs (omega (arith, product-small))
 
+  over-back : toZ w64 (ofZ w64 (c .excess-over .result)) ≡ c .excess-over .result
+  over-back = read-back (record { sfits = c .excess-over .ok })
+
   sum-is : (pos k *ℤ t) +ℤ c .excess-over .result ≡ largestSum f (found c .before .args .n) k
   sum-is =
       ap (λ (x : ℤ). (pos k *ℤ t) +ℤ x) (c .excess-over .ensures ∙ rw (t-back (found c)))
@@ -82,19 +85,22 @@ cast-result-2 c = rw (t-back (found c)) (t-fits c)
 mul-result : tie.Need-mul-result
 mul-result c = rw (t-back (found c), read-back (t-fits c), k-back c) (product-fits c)
 
+-- what the code works out
+sum-made : (c : tie.After-excess-over)
+    → toZ w64 (ofZ w64 (toZ w64 (k c) *ℤ toZ w64 (ofZ w64 (toZ w32 (ofZ w32 (t c)))))) +ℤ toZ w64 (ofZ w64 (c .excess-over .result))
+    ≡ largestSum (f c) (found c .before .args .n) (k c)
+sum-made c =
+    rw (t-back (found c), read-back (t-fits c), k-back c, read-back (product-fits c), over-back c)
+    (sum-is c)
+
 add-result : tie.Need-add-result
-add-result c =
-    rw (t-back (found c), read-back (t-fits c), k-back c, read-back (product-fits c), read-back {z = c .excess-over .result} (record { sfits = c .excess-over .ok }), sum-is c)
-    (fits-of-abs (omega (arith, sum-small c)))
+add-result c = rw (sum-made c) (fits-of-abs (omega (arith, sum-small c)))
 
 cast-result-3 : tie.Need-cast-result-3
-cast-result-3 c =
-    rw (read-back (add-result c), t-back (found c), read-back (t-fits c), k-back c, read-back (product-fits c), read-back {z = c .excess-over .result} (record { sfits = c .excess-over .ok }), sum-is c)
-    (fits-of-abs (omega (arith, sum-small c)))
+cast-result-3 c = rw (read-back (add-result c), sum-made c) (fits-of-abs (omega (arith, sum-small c)))
 
 returns : tie.Need-returns
-returns c =
-    rw (read-back (cast-result-3 c), read-back (add-result c), t-back (found c), read-back (t-fits c), k-back c, read-back (product-fits c), read-back {z = c .excess-over .result} (record { sfits = c .excess-over .ok }), sum-is c)
+returns c = rw (read-back (cast-result-3 c), read-back (add-result c), sum-made c)
 
 pub largest-sum-spec : {M : Type 1} → statement M
 largest-sum-spec =
