@@ -1,7 +1,9 @@
-//! Document 01's opening, draw, respond, filled part and exponential, written from that document alone, in 128-bit whole numbers
-//! and plain loops. What the box must answer, and leave behind, for every input.
+//! Document 01's opening, draw, respond, filled part and exponential, and document 02's key check, written from these documents
+//! alone, in whole numbers wide enough for each sum and in plain loops. What the box must answer, and leave behind, for every
+//! input.
 
 pub mod draw;
+pub mod key_check;
 pub mod respond;
 
 /// ONE is 2^62 units.
