@@ -1,5 +1,6 @@
 //! Compares the raw surface of the archive with the model. Every draw and every respond call is compared in its answer, its
 //! session, y, z, the whole list, and in what it must leave alone: what is lent for reading, and the memory around every buffer.
+//! So is every key check, and what it promises of a key that passes is looked for in respond calls.
 //! The last line says how many calls were compared. A run of the default length, or a longer one, fails where it misses a case, or
 //! compares less than the documents say.
 //!
@@ -14,6 +15,7 @@ mod comparison;
 mod coverage;
 mod demand3;
 mod draws;
+mod key_checks;
 mod lent;
 mod lists;
 mod model;
@@ -37,7 +39,7 @@ const LEAST_PAIRS: u64 = 32_000;
 
 type Part = (&'static str, fn(&Comparison));
 
-const PARTS: [Part; 14] = [
+const PARTS: [Part; 19] = [
     ("guards", lent::guards_notice_every_change),
     ("openings", openings_are_the_models),
     ("filled parts", filled_parts_are_the_models),
@@ -48,6 +50,11 @@ const PARTS: [Part; 14] = [
     ("responses spoilt in one place", responses::each_check_alone_is_the_models),
     ("responses at their limits", responses::the_limits_of_a_response_are_the_models),
     ("responses of the greatest sums", responses::the_greatest_sums_are_the_models),
+    ("key checks of small degrees", key_checks::small_key_checks_are_the_models),
+    ("key checks of large degrees", key_checks::large_key_checks_are_the_models),
+    ("key checks spoilt in one place", key_checks::each_check_alone_is_the_models),
+    ("key checks at their limits", key_checks::the_limits_of_a_key_check_are_the_models),
+    ("key checks beside every challenge", key_checks::no_challenge_has_a_greater_sum),
     ("lists of calls", lists::lists_of_calls_are_the_models),
     ("demand 3, histories", demand3::read_lists_are_equal_exactly_when_histories_are),
     ("demand 3, agreement", demand3::what_is_not_listed_decides_nothing),

@@ -2,6 +2,7 @@
 //! is lent for reading, and the memory around every buffer.
 
 mod draw;
+mod key_check;
 mod respond;
 
 use std::fmt::{Debug, Display};
@@ -13,6 +14,7 @@ use crate::lent::Lent;
 use crate::model::Session;
 
 pub use draw::{draw, Drawn};
+pub use key_check::check_key;
 pub use respond::{respond, Responded};
 
 fn given(session: Session) -> raw::Session {

@@ -40,7 +40,7 @@ pub fn with_limit(random: &mut Random, degree: usize, limit: usize) -> Call {
 
 /// A call that may be right, or refused for one or more reasons, and these reasons.
 pub fn any(random: &mut Random) -> (Call, Vec<u32>) {
-    super::any(random, right, &REFUSALS, spoil)
+    super::any(random, super::degree, right, &REFUSALS, spoil)
 }
 
 /// Limits at both ends, and around the attempts that a draw is likely to need.

@@ -1,6 +1,7 @@
 //! Calls to compare: served ones, at the edges of every rule, and what makes them refused.
 
 pub mod draw;
+pub mod key_check;
 pub mod respond;
 
 use crate::random::Random;
@@ -33,6 +34,7 @@ pub fn degree_of_list(random: &mut Random) -> usize {
 /// A call that may be right, or refused for one or more of these reasons, and the reasons. They are brought about in their order.
 fn any<C>(
     random: &mut Random,
+    degree: fn(&mut Random) -> usize,
     right: fn(&mut Random, usize) -> C,
     refusals: &[u32],
     spoil: fn(&mut Random, &mut C, u32) -> bool,
@@ -53,6 +55,26 @@ fn any<C>(
     (call, reasons)
 }
 
+/// How many positions a right challenge has: one, as many as may be, or any number between.
+fn positions(random: &mut Random, degree: usize) -> usize {
+    let most = degree.min(64);
+    match random.below(6) {
+        0 => 1,
+        1 => most,
+        2 => most / 2,
+        _ => 1 + random.below(most.max(1)),
+    }
+}
+
+/// All places of a small vector, and of a larger one those at the ends of its halves.
+pub fn places(n: usize) -> Vec<usize> {
+    if n == 4 {
+        (0..8).collect()
+    } else {
+        vec![0, n - 1, n, 2 * n - 1]
+    }
+}
+
 /// The refusal that goes before all others of these, or 0.
 pub fn first(reasons: &[u32]) -> u32 {
     reasons.iter().copied().min().unwrap_or(0)
@@ -61,6 +83,15 @@ pub fn first(reasons: &[u32]) -> u32 {
 /// The low 62 bits of a word below any top two bits.
 fn top_bits(random: &mut Random, word: u64) -> u64 {
     word % BOUND + (random.pick(&[0, 0, 1, 2, 3]) << 62)
+}
+
+/// A number from -`bound` to `bound`.
+fn within(random: &mut Random, bound: i32) -> i32 {
+    random.below(2 * bound as usize + 1) as i32 - bound
+}
+
+fn either_sign(random: &mut Random, value: i32) -> i32 {
+    random.pick(&[value, -value])
 }
 
 /// A length that is near the right one, and another.
@@ -76,6 +107,20 @@ fn spoil_polynomial(random: &mut Random, polynomial: &mut [u64]) {
         2 => *entry ^ 1 << random.below(64),
         _ => u64::MAX - *entry,
     };
+}
+
+/// Puts values outside a bound at the first place, the last, any, or several.
+fn spoil_values(random: &mut Random, values: &mut [i32], bound: i32) -> bool {
+    if values.is_empty() {
+        return false;
+    }
+    let last = values.len() - 1;
+    let any = [random.below(last + 1), random.below(last + 1)];
+    let places = random.pick(&[[0, 0], [last, last], [0, last], any, [any[0], any[0]]]);
+    for place in places {
+        values[place] = random.pick(&[bound + 1, -bound - 1, 1 << 12, 1 << 16, i32::MAX, i32::MIN, i32::MIN + bound]);
+    }
+    true
 }
 
 /// Cuts a buffer to fewer values than are asked for.

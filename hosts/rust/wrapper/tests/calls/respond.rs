@@ -1,6 +1,7 @@
 //! Respond calls.
 
-use super::{shorten, spoil_polynomial, top_bits, wrong_length, BOUND, FORGED_DEGREES};
+use super::{either_sign, positions, shorten, spoil_polynomial, spoil_values, top_bits, within, wrong_length};
+use super::{BOUND, FORGED_DEGREES};
 use crate::model::respond::{list_asked, product, Call, Response, PRODUCT_LIMIT, RESPONSE_LIMIT, WORDS_ASKED};
 use crate::model::{Session, POLYNOMIAL};
 use crate::random::Random;
@@ -19,9 +20,14 @@ pub const GREATEST_Y: i32 = 2815;
 pub fn right(random: &mut Random, degree: usize) -> Call {
     let challenge = challenge(random, degree);
     let key = key(random, degree, &challenge);
+    with_key(random, challenge, key)
+}
+
+/// A right call to a given challenge, with a given key.
+pub fn with_key(random: &mut Random, challenge: Vec<u32>, key: Vec<i32>) -> Call {
     let minus = random.one_in(2);
     let y = y(random, &product(&key, &challenge), minus);
-    assembled(random, degree, challenge, key, y, minus)
+    assembled(random, key.len() / 2, challenge, key, y, minus)
 }
 
 /// A right call to a given challenge, over a given y.
@@ -33,7 +39,7 @@ pub fn over(random: &mut Random, degree: usize, challenge: &[u32], y: &[i32]) ->
 
 /// A call that may be right, or refused for one or more reasons, and these reasons.
 pub fn any(random: &mut Random) -> (Call, Vec<u32>) {
-    super::any(random, right, &REFUSALS, spoil)
+    super::any(random, super::degree, right, &REFUSALS, spoil)
 }
 
 fn assembled(random: &mut Random, degree: usize, challenge: Vec<u32>, key: Vec<i32>, y: Vec<i32>, minus: bool) -> Call {
@@ -55,15 +61,14 @@ fn assembled(random: &mut Random, degree: usize, challenge: Vec<u32>, key: Vec<i
     }
 }
 
-/// A right challenge: of one position, of as many as may be, or of any length between.
+/// A right challenge.
 pub fn challenge(random: &mut Random, degree: usize) -> Vec<u32> {
-    let most = degree.min(64);
-    let length = match random.below(6) {
-        0 => 1,
-        1 => most,
-        2 => most / 2,
-        _ => 1 + random.below(most.max(1)),
-    };
+    let length = positions(random, degree);
+    challenge_of(random, degree, length)
+}
+
+/// A right challenge of so many positions.
+pub fn challenge_of(random: &mut Random, degree: usize, length: usize) -> Vec<u32> {
     let mut rest: Vec<u32> = (0..degree as u32).collect();
     let ends = random.below(3);
     let mut challenge: Vec<u32> = (0..length.min(degree))
@@ -76,15 +81,6 @@ pub fn challenge(random: &mut Random, degree: usize) -> Vec<u32> {
         .collect();
     challenge.sort_unstable();
     challenge
-}
-
-/// A number from -`bound` to `bound`.
-fn within(random: &mut Random, bound: i32) -> i32 {
-    random.below(2 * bound as usize + 1) as i32 - bound
-}
-
-fn either_sign(random: &mut Random, value: i32) -> i32 {
-    random.pick(&[value, -value])
 }
 
 fn key(random: &mut Random, degree: usize, challenge: &[u32]) -> Vec<i32> {
@@ -109,8 +105,16 @@ fn key(random: &mut Random, degree: usize, challenge: &[u32]) -> Vec<i32> {
     }
 }
 
+/// A key for n = 512 whose sum of squares is 943 × 49 + 18 = 46,225. Its last value is 0.
+pub fn key_of_46_225() -> Vec<i32> {
+    let mut key = vec![GREATEST_KEY; 943];
+    key.extend([3, -3]);
+    key.resize(1024, 0);
+    key
+}
+
 /// A key whose A is likely to be near a wanted one: values up to a bound, with as many zeros as that asks for.
-fn key_near(random: &mut Random, length: usize, positions: usize, wanted: usize) -> Vec<i32> {
+pub fn key_near(random: &mut Random, length: usize, positions: usize, wanted: usize) -> Vec<i32> {
     let bound = 1 + random.below(GREATEST_KEY as usize);
     // Values up to the bound have bound (bound + 1) / 3 as their mean square, and each counts once for each position.
     let all = (length * positions * bound * (bound + 1) / 3).max(1);
@@ -296,18 +300,4 @@ fn spoil_challenge(random: &mut Random, call: &mut Call) {
     }
     let least = list_asked(call.session.degree, call.challenge.len());
     call.list.resize(least.max(call.list.len()), 0);
-}
-
-/// Puts values outside a bound at the first place, the last, any, or several.
-fn spoil_values(random: &mut Random, values: &mut [i32], bound: i32) -> bool {
-    if values.is_empty() {
-        return false;
-    }
-    let last = values.len() - 1;
-    let any = [random.below(last + 1), random.below(last + 1)];
-    let places = random.pick(&[[0, 0], [last, last], [0, last], any]);
-    for place in places {
-        values[place] = random.pick(&[bound + 1, -bound - 1, 1 << 12, 1 << 16, i32::MAX, i32::MIN, i32::MIN + bound]);
-    }
-    true
 }

@@ -6,7 +6,7 @@ use std::sync::atomic::{AtomicU64, Ordering::Relaxed};
 use bliss_box::raw;
 
 use crate::archive;
-use crate::model::{self, draw, respond, Session};
+use crate::model::{self, draw, key_check, respond, Session};
 
 /// What all parts of a run compared.
 #[derive(Default)]
@@ -16,6 +16,7 @@ pub struct Comparison {
     responds: AtomicU64,
     filled: AtomicU64,
     exponentials: AtomicU64,
+    key_checks: AtomicU64,
     lists: AtomicU64,
     pairs: AtomicU64,
 }
@@ -90,6 +91,16 @@ impl Comparison {
         self.exponentials.fetch_add(1, Relaxed);
     }
 
+    /// Checks a key with the box and with the model, and compares.
+    pub fn key_check(&self, origin: &dyn Display, call: &key_check::Call) -> key_check::Checked {
+        let given = archive::check_key(origin, call);
+        let expected = key_check::check_key(call);
+        same(origin, "the refusal", &[given.refusal], &[expected.answer.refusal]);
+        same(origin, "the sum", &[given.sum], &[expected.answer.sum]);
+        self.key_checks.fetch_add(1, Relaxed);
+        expected
+    }
+
     /// Counts a list of calls, each of which was compared.
     pub fn count_list(&self) {
         self.lists.fetch_add(1, Relaxed);
@@ -117,7 +128,8 @@ impl Display for Comparison {
         write!(f, "{} draws and {} respond calls", count(&self.draws), count(&self.responds))?;
         write!(f, " ({} lists of calls among them)", count(&self.lists))?;
         write!(f, ", {} openings, {} filled parts", count(&self.openings), count(&self.filled))?;
-        write!(f, " and {} exponentials with the model", count(&self.exponentials))?;
+        write!(f, ", {} exponentials and {} key checks", count(&self.exponentials), count(&self.key_checks))?;
+        write!(f, " with the model")?;
         write!(f, ", and {} pairs of lists of calls with each other", count(&self.pairs))
     }
 }

@@ -1,6 +1,7 @@
 //! What a run of comparisons came across, so that a run that missed a case fails.
 
 mod draw;
+mod key_check;
 mod respond;
 
 use std::collections::BTreeMap;
@@ -10,6 +11,7 @@ use crate::model::Session;
 use crate::run;
 
 pub use draw::REFUSALS as DRAW_REFUSALS;
+pub use key_check::REFUSALS as KEY_CHECK_REFUSALS;
 pub use respond::REFUSALS as RESPOND_REFUSALS;
 
 /// The top two bits of a word, which 62 of the word leaves out.
@@ -46,6 +48,18 @@ impl Coverage {
         self.see(format!("{what}: just as many as asked for"), refusal == 0 && lent == asked);
         self.see(format!("{what}: one more than asked for"), refusal == 0 && lent == asked + 1);
         self.see(format!("{what}: one less than asked for, {}", refused(fewer)), refusal == fewer && lent + 1 == asked);
+    }
+
+    /// Counts where the values are that are outside their bounds.
+    fn count_places(&mut self, refusal: &str, values: &[i32], bound: i32) {
+        let outside: Vec<usize> = (0..values.len()).filter(|&place| values[place].unsigned_abs() > bound as u32).collect();
+        let last = values.len() - 1;
+        self.see(format!("{refusal}, the first value alone"), outside == [0]);
+        self.see(format!("{refusal}, the last value alone"), outside == [last]);
+        self.see(format!("{refusal}, a value between alone"), outside.len() == 1 && ![0, last].contains(&outside[0]));
+        self.see(format!("{refusal}, several values"), outside.len() > 1);
+        self.see(format!("{refusal}, {} alone", bound + 1), outside.len() == 1 && values[outside[0]] == bound + 1);
+        self.see(format!("{refusal}, -{} alone", bound + 1), outside.len() == 1 && values[outside[0]] == -bound - 1);
     }
 
     /// Counts the reasons for which a call could be refused, of the refusals that it has. The first in order refuses it.

@@ -9,9 +9,9 @@ pub const REFUSALS: [u32; 9] = [1, 2, 4, 6, 7, 8, 9, 10, 11];
 
 /// The four tests of a response, where one alone fails.
 const BY_A: [bool; 4] = [false, true, true, true];
-const BY_Z: [bool; 4] = [true, false, true, true];
-const BY_WORD_1: [bool; 4] = [true, true, false, true];
-const BY_COSH: [bool; 4] = [true, true, true, false];
+pub const BY_Z: [bool; 4] = [true, false, true, true];
+pub const BY_WORD_1: [bool; 4] = [true, true, false, true];
+pub const BY_COSH: [bool; 4] = [true, true, true, false];
 
 impl Coverage {
     /// Counts a respond call that was compared.
@@ -143,18 +143,6 @@ impl Coverage {
         let falls = challenge.windows(2).any(|pair| pair[0] > pair[1]);
         self.see("refusal 6, equal positions alone", length_is_right && below_n && equal && !falls);
         self.see("refusal 6, falling positions alone", length_is_right && below_n && falls && !equal);
-    }
-
-    /// Where the values are that are outside their bounds.
-    fn count_places(&mut self, refusal: &str, values: &[i32], bound: i32) {
-        let outside: Vec<usize> = (0..values.len()).filter(|&place| values[place].unsigned_abs() > bound as u32).collect();
-        let last = values.len() - 1;
-        self.see(format!("{refusal}, the first value alone"), outside == [0]);
-        self.see(format!("{refusal}, the last value alone"), outside == [last]);
-        self.see(format!("{refusal}, a value between alone"), outside.len() == 1 && ![0, last].contains(&outside[0]));
-        self.see(format!("{refusal}, several values"), outside.len() > 1);
-        self.see(format!("{refusal}, {} alone", bound + 1), outside.len() == 1 && values[outside[0]] == bound + 1);
-        self.see(format!("{refusal}, -{} alone", bound + 1), outside.len() == 1 && values[outside[0]] == -bound - 1);
     }
 }
 

@@ -1,7 +1,7 @@
 //! Single respond calls.
 
 use crate::calls::respond::{GREATEST_KEY, GREATEST_Y};
-use crate::calls::{self, DEGREES};
+use crate::calls::{self, places, DEGREES};
 use crate::comparison::Comparison;
 use crate::coverage::{at_every_degree, every_refusal, Coverage, RESPOND_REFUSALS};
 use crate::model::respond::{list_asked, product, Call, Responded, Response, WORDS_ASKED};
@@ -49,10 +49,7 @@ fn is_accepted(comparison: &Comparison, name: &str, call: &Call) -> bool {
 /// word 2.
 pub fn the_limits_of_a_response_are_the_models(comparison: &Comparison) {
     let is_accepted = |name: &str, call: &Call| is_accepted(comparison, name, call);
-    // 943 × 49 + 18 = 46,225.
-    let mut key = vec![7; 943];
-    key.extend([3, -3]);
-    key.resize(1024, 0);
+    let mut key = calls::respond::key_of_46_225();
     let zero = vec![0; 1024];
     assert!(is_accepted("A = 46,225", &plain(512, key.clone(), zero.clone())));
     let multiple = key.iter().map(|value| 50 * value).collect();
@@ -130,15 +127,6 @@ fn with_challenge(right: &Call, challenge: &[u32]) -> (String, Call) {
         call.list.resize(list_asked(call.session.degree, challenge.len()), 0);
     });
     (format!("challenge {challenge:?}"), call)
-}
-
-/// All places of a small vector, and of a larger one those at the ends of its halves.
-fn places(n: usize) -> Vec<usize> {
-    if n == 4 {
-        (0..8).collect()
-    } else {
-        vec![0, n - 1, n, 2 * n - 1]
-    }
 }
 
 fn served_at_an_end(right: &Call) -> Vec<(String, Call)> {
