@@ -149,6 +149,11 @@ fn spoilt_in_one_place(right: &Call) -> Vec<(String, Call)> {
         for value in [8, -8, 256, i32::MAX, i32::MIN] {
             add(format!("key value {place} at {value}"), &|call| call.key[place] = value);
         }
+        add(format!("key value {place} at 8, the others at 7"), &|call| {
+            call.key.fill(7);
+            call.key[place] = 8;
+            call.length = n.min(64);
+        });
     }
     spoilt
 }
