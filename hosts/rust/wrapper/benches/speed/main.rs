@@ -1,11 +1,13 @@
-//! Times the exponential, draws and responses of the box against the same rules in plain Rust, in one run, and prints ratios beside
-//! their targets. Nothing fails by time; the run fails where the box and a baseline differ in what they answer or write.
+//! Times the exponential, draws, responses and key checks of the box against the same rules in plain Rust, in one run, and prints
+//! ratios beside their targets. Nothing fails by time; the run fails where the box and a baseline differ in what they answer or
+//! write.
 //!
 //! usage: scripts/cargo bench --bench speed
 
 mod baseline;
 mod draw;
 mod exponential;
+mod key_check;
 #[path = "../../tests/random/mod.rs"]
 #[allow(dead_code)]
 mod random;
@@ -15,6 +17,7 @@ mod rounds;
 
 use draw::Draw;
 use exponential::Exponentials;
+use key_check::KeyChecks;
 use report::Row;
 use respond::Respond;
 use rounds::{compare, Call};
@@ -24,12 +27,16 @@ compile_error!("the archive is built for plain x86-64, and so must the baselines
 
 const DEGREES: [usize; 3] = [256, 512, 1024];
 
+/// Degrees and challenge lengths of key checks: BLISS-I's, and the greatest.
+const KEY_CHECKS: [(usize, usize); 2] = [(512, 23), (1024, 64)];
+
 /// The degree that the targets are for: BLISS-I's.
 const TARGET_DEGREE: usize = 512;
 
 const EXPONENTIAL_TARGET: f64 = 0.65;
 const DRAW_TARGET: f64 = 0.85;
 const RESPOND_TARGET: f64 = 1.0;
+const KEY_CHECK_TARGET: f64 = 1.1;
 
 /// The most that the time of a draw at n = 1,024 over that at n = 256 should be.
 const GROWTH_TARGET: f64 = 4.4;
@@ -38,9 +45,11 @@ fn main() {
     let mut exponentials = [Exponentials::new()];
     let mut draws = DEGREES.map(Draw::new);
     let mut responds = DEGREES.map(Respond::new);
+    let mut key_checks = KEY_CHECKS.map(|(n, length)| KeyChecks::new(n, length));
     let exponential_times = compare(&mut exponentials);
     let draw_times = compare(&mut draws);
     let respond_times = compare(&mut responds);
+    let key_check_times = compare(&mut key_checks);
 
     let target = |n, most| (n == TARGET_DEGREE).then_some(most);
     let mut rows = Vec::new();
@@ -55,6 +64,10 @@ fn main() {
     for (call, times) in responds.iter().zip(&respond_times) {
         let (units, target) = (call.key_reads(), target(call.degree(), RESPOND_TARGET));
         rows.push(Row { call: call.name(), times, units, unit: "key read", target });
+    }
+    for (call, times) in key_checks.iter().zip(&key_check_times) {
+        let (units, target) = (call.entries(), Some(KEY_CHECK_TARGET));
+        rows.push(Row { call: call.name(), times, units, unit: "entry", target });
     }
     report::print(&rows);
 

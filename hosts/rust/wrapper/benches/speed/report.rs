@@ -22,8 +22,8 @@ pub fn print(rows: &[Row]) {
         "A ratio is the time of the box over that of a baseline, as the median of the rounds; its target stands beside it."
     );
     println!("  shifted    the baseline, with products of 128 bits that are shifted by 62");
-    println!("  high word  the same code, but each product is one high word, which shows the limit");
-    println!("Before timing, answers, y, z and read lists of the three were compared: they are equal.\n");
+    println!("  high word  the same code, but each product is one high word, which shows the limit; a key check has none");
+    println!("Before timing, answers, y, z and read lists of all were compared: they are equal.\n");
     println!("{}", line("call of the box", "median", "for each", "ratio to shifted", "ratio to high word"));
     for row in rows {
         let median = row.times.median();
@@ -33,15 +33,19 @@ pub fn print(rows: &[Row]) {
                 &row.call,
                 &format!("{:.1} µs", median / 1e3),
                 &format!("{:.2} ns {}", median / row.units as f64, row.unit),
-                &judged(row.times.ratio_to(Side::Shifted), row.target),
-                &judged(row.times.ratio_to(Side::HighWord), Some(HIGH_WORD_TARGET)),
+                &judged_side(row.times, Side::Shifted, row.target),
+                &judged_side(row.times, Side::HighWord, Some(HIGH_WORD_TARGET)),
             )
         );
     }
 }
 
 fn line(call: &str, median: &str, each: &str, shifted: &str, high_word: &str) -> String {
-    format!("{call:<19}{median:>9}   {each:<19}{shifted:<29}{high_word}")
+    format!("{call:<34}{median:>9}   {each:<19}{shifted:<29}{high_word}")
+}
+
+fn judged_side(times: &Times, side: Side, target: Option<f64>) -> String {
+    times.ratio_to(side).map_or("-".into(), |ratio| judged(ratio, target))
 }
 
 /// A ratio with its target, and whether it is met.

@@ -1,4 +1,4 @@
-//! Calls timed in rounds. In each round the box and both baselines make every call in turn, so that drift of the machine hits all
+//! Calls timed in rounds. In each round the box and the baselines make every call in turn, so that drift of the machine hits all
 //! alike.
 
 use std::hint::black_box;
@@ -11,16 +11,17 @@ pub const ROUNDS: usize = 1_001;
 pub enum Side {
     /// The archive.
     Box,
-    /// The baseline with products of 128 bits, shifted.
+    /// The baseline, whose products of 128 bits are shifted.
     Shifted,
     /// The baseline with high words of products.
     HighWord,
 }
 
-const SIDES: [Side; 3] = [Side::Box, Side::Shifted, Side::HighWord];
-
-/// A call that every side can make.
+/// A call that the box and one baseline or both can make.
 pub trait Call {
+    /// Those that make it, the box first.
+    const SIDES: &'static [Side] = &[Side::Box, Side::Shifted, Side::HighWord];
+
     /// All that the call answers and writes.
     type Left: PartialEq;
 
@@ -40,7 +41,7 @@ pub fn timed<T>(work: impl FnOnce() -> T) -> (f64, T) {
     (start.elapsed().as_nanos() as f64, result)
 }
 
-/// The times of one call in nanoseconds: of each side, one for each round.
+/// The times of one call in nanoseconds: of each side that makes it, one for each round.
 #[derive(Default)]
 pub struct Times([Vec<f64>; 3]);
 
@@ -54,9 +55,10 @@ impl Times {
         median(self.of(Side::Box).to_vec())
     }
 
-    /// The time of the box over that of another side.
-    pub fn ratio_to(&self, side: Side) -> f64 {
-        median_ratio(self.of(Side::Box), self.of(side))
+    /// The time of the box over that of another side, if this makes the call.
+    pub fn ratio_to(&self, side: Side) -> Option<f64> {
+        let others = self.of(side);
+        (!others.is_empty()).then(|| median_ratio(self.of(Side::Box), others))
     }
 
     /// The time of the box over its time of another call, which was timed in the same rounds.
@@ -80,7 +82,7 @@ pub fn compare<C: Call>(calls: &mut [C]) -> Vec<Times> {
     calls.iter_mut().for_each(agree);
     let mut times: Vec<Times> = calls.iter().map(|_| Times::default()).collect();
     for _ in 0..ROUNDS {
-        for side in SIDES {
+        for &side in C::SIDES {
             for (call, times) in calls.iter_mut().zip(&mut times) {
                 times.0[side as usize].push(call.nanoseconds(side));
             }
@@ -91,7 +93,7 @@ pub fn compare<C: Call>(calls: &mut [C]) -> Vec<Times> {
 
 fn agree<C: Call>(call: &mut C) {
     let left = call.left(Side::Box);
-    for side in [Side::Shifted, Side::HighWord] {
+    for &side in &C::SIDES[1..] {
         assert!(
             left == call.left(side),
             "{}: the box and the baseline {side:?} differ in what they answer or write",

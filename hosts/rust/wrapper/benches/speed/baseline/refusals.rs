@@ -1,7 +1,7 @@
-//! The refusals of a draw and of a response, in document 01's order. The types of the tables hold their lengths.
+//! The refusals of a draw, of a response and of a key check, in the documents' order. The types of the tables hold their lengths.
 
 use bliss_box::{challenge_limit, draw_list_length, draw_word_count, respond_list_length, sample_count};
-use bliss_box::{Refusal, Session, POLYNOMIAL, RESPOND_WORDS};
+use bliss_box::{Refusal, Session, KEY_SUM_LIMIT, POLYNOMIAL, RESPOND_WORDS};
 
 use super::words::threshold;
 
@@ -46,6 +46,17 @@ pub fn check_respond(
     demand(all_within(y, 2_815), Refusal::Y)
 }
 
+pub fn check_key_values(n: usize, key: &[i32], length: usize) -> Result<(), Refusal> {
+    demand(is_degree(n), Refusal::Degree)?;
+    demand(key.len() == sample_count(n), Refusal::Lengths)?;
+    demand(is_length(n, length), Refusal::Challenge)?;
+    demand(all_within(key, 7), Refusal::Key)
+}
+
+pub fn check_key_sum(sum: u32) -> Result<(), Refusal> {
+    demand(sum <= KEY_SUM_LIMIT, Refusal::KeySum)
+}
+
 fn demand(condition: bool, refusal: Refusal) -> Result<(), Refusal> {
     condition.then_some(()).ok_or(refusal)
 }
@@ -60,9 +71,13 @@ fn is_cdt(cdt: &[u64; 20]) -> bool {
 }
 
 fn is_challenge(n: usize, challenge: &[u32]) -> bool {
-    (1..=challenge_limit(n)).contains(&challenge.len())
+    is_length(n, challenge.len())
         && challenge.iter().all(|position| (*position as usize) < n)
         && challenge.windows(2).all(|pair| pair[0] < pair[1])
+}
+
+fn is_length(n: usize, length: usize) -> bool {
+    (1..=challenge_limit(n)).contains(&length)
 }
 
 /// Every value is looked at: without an early end, the compiler tests several at once.
