@@ -34,6 +34,9 @@ use run::DEFAULT_SEED;
 /// The draws and respond calls that a whole run compares with the model, or more, as README.md says.
 const LEAST_CALLS: u64 = 250_000;
 
+/// The key checks that it compares with the model, or more.
+const LEAST_KEY_CHECKS: u64 = 5_000;
+
 /// The pairs of lists of calls that it compares with each other, or more, as docs/ARCHITECTURE.md says.
 const LEAST_PAIRS: u64 = 32_000;
 
@@ -76,11 +79,16 @@ fn main() -> ExitCode {
         return ExitCode::FAILURE;
     }
     println!("compared: {comparison}");
-    if run::is_whole() && words.is_empty() && (comparison.calls() < LEAST_CALLS || comparison.pairs() < LEAST_PAIRS) {
-        eprintln!("fewer than {LEAST_CALLS} draws and respond calls, or than {LEAST_PAIRS} pairs of lists, were compared");
+    if run::is_whole() && words.is_empty() && !is_enough(&comparison) {
+        eprint!("fewer than {LEAST_CALLS} draws and respond calls, than {LEAST_KEY_CHECKS} key checks");
+        eprintln!(", or than {LEAST_PAIRS} pairs of lists, were compared");
         return ExitCode::FAILURE;
     }
     ExitCode::SUCCESS
+}
+
+fn is_enough(comparison: &Comparison) -> bool {
+    comparison.calls() >= LEAST_CALLS && comparison.key_checks() >= LEAST_KEY_CHECKS && comparison.pairs() >= LEAST_PAIRS
 }
 
 /// Runs each part in a thread of its own. One that fails says so itself, under its name.

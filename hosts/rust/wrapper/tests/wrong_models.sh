@@ -90,6 +90,7 @@ wrong_by_padding() {
          }"
 }
 
+# Document 01's calls.
 words='openings filled exponentials draws responses lists demand'
 compare || fail "the right model is not the archive's"
 
@@ -326,8 +327,8 @@ wrong 'a count of the length gets the empty part' 'count > list.len()' 'count >=
 wrong 'five squarings' 'for _ in 0..6 {' 'for _ in 0..5 {'
 wrong 'the exponential refuses its limit' 'n > EXPONENTIAL_LIMIT' 'n >= EXPONENTIAL_LIMIT'
 
+# Document 02's key check. At large degrees its model is too slow where it is not optimised.
 part=key_check.rs
-# The model of the key check is too slow for the large degrees where it is not optimised.
 words='small spoilt'
 compare || fail "the right model of the key check is not the archive's"
 

@@ -116,6 +116,11 @@ impl Comparison {
         self.draws.load(Relaxed) + self.responds.load(Relaxed)
     }
 
+    /// The key checks that were compared with the model.
+    pub fn key_checks(&self) -> u64 {
+        self.key_checks.load(Relaxed)
+    }
+
     /// The pairs of lists of calls that were compared with each other.
     pub fn pairs(&self) -> u64 {
         self.pairs.load(Relaxed)

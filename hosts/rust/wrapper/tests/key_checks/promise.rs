@@ -27,6 +27,7 @@ impl Promise<'_> {
         let any = calls::respond::challenge_of(random, call.n, call.length);
         let largest = places_of_largest_entries(sums, call.length);
         let worst = worst_from(&sums.table, largest.clone());
+        self.coverage.see("a worse challenge is found", worst != largest);
         for challenge in [any, ascending(largest), ascending(worst)] {
             self.hold(random, origin, call, checked, challenge);
         }
@@ -49,7 +50,7 @@ impl Promise<'_> {
         let a = response.product_squares;
         assert!(a <= sum && sum <= PRODUCT_LIMIT, "{origin}: A is {a}, and the final sum {sum}");
         let [_, others @ ..] = response.tests();
-        assert_eq!(responded.answer.bit, others == [true; 3], "{origin}: a test beside A's decides");
+        assert_eq!(responded.answer.bit, others == [true; 3], "{origin}: the bit is not that of the tests beside A's");
         self.coverage.count_promise(call.n, sum, &response);
     }
 }
