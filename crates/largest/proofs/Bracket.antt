@@ -17,7 +17,7 @@ pub record Bracket (f : ℕ → ℤ) (n k : ℕ) (t : ℤ) (width : ℕ) : Type 
   pub power : width ≡ 2 ^ exponent
   pub enough : k ≤ sumOver (reaches t) f n
   pub over : sumOver (reaches (t +ℤ pos width)) f n < k
-  pub small : natAbs t + width ≤ 33554432
+  pub small : natAbs t + width ≤ 25165824
 
 -- ** The start: all values are from -2 ^ 23 to 2 ^ 23 - 1
 

@@ -3,6 +3,7 @@ use mathlib.Core.Path.{_≡_, refl, sym, ap, ap₂, _∙_}
 use mathlib.Core.Bool.{Bool, true, false, cond, false≢true}
 use mathlib.Core.List.{List, [], _∷_}
 use Prim.Native.Nat.{ℕ, zero, suc, _+_, _*_, _≤_, _<_}
+use native.Mathlib.Decide.{decLe}
 use native.Mathlib.Omega.{arith}
 use native.Mathlib.Numerals.{add-one}
 use lib.ListN.{take}
@@ -24,23 +25,24 @@ module _ (g : ℤ → ℕ) (f : ℕ → ℤ) where
   unfolding sumOver
   sum-more j = ap (sumOver g f) (add-one j)
 
-  pub sum-at-most : (bound : ℕ) → ((j : ℕ) → g (f j) ≤ bound) → (n : ℕ) → sumOver g f n ≤ n * bound
+  pub sum-rises : (j n : ℕ) → j ≤ n → sumOver g f j ≤ sumOver g f n
   unfolding sumOver
-  sum-at-most bound h zero = omega arith
-  sum-at-most bound h (suc n) = omega (arith, sum-at-most bound h n, h n)
+  sum-rises j zero h = let none : j ≡ 0 = omega arith in rw none (omega arith)
+  sum-rises j (suc n) h = by (decLe j n) (sum-rises j n)
+    where
+      by : Dec (j ≤ n) → (j ≤ n → sumOver g f j ≤ sumOver g f n) → sumOver g f j ≤ sumOver g f n + g (f n)
+      by (yes b) before = omega (arith, before b)
+      by (no b) before = let last : j ≡ suc n = omega arith in rw last (omega arith)
+
+  pub sum-scaled : (h : ℤ → ℕ) (scale : ℕ) → ((j : ℕ) → g (f j) ≤ scale * h (f j)) → (n : ℕ) → sumOver g f n ≤ scale * sumOver h f n
+  unfolding sumOver
+  sum-scaled h scale e zero = omega arith
+  sum-scaled h scale e (suc n) = omega (arith, sum-scaled h scale e n, e n)
 
   pub sum-alike : (each : ℕ) → ((j : ℕ) → g (f j) ≡ each) → (n : ℕ) → sumOver g f n ≡ n * each
   unfolding sumOver
   sum-alike each h zero = omega arith
   sum-alike each h (suc n) = omega (arith, sum-alike each h n, h n)
-
--- no more reach a threshold than there are
-pub reach-at-most : (t : ℤ) (f : ℕ → ℤ) (n : ℕ) → sumOver (reaches t) f n ≤ n
-reach-at-most t f n = omega (arith, sum-at-most (reaches t) f 1 (λ j. one-at-most (leZ t (f j))) n)
-  where
-    one-at-most : (b : Bool) → cond b 1 0 ≤ 1
-    one-at-most true = omega arith
-    one-at-most false = omega arith
 
 -- ** The same over a list
 
@@ -117,7 +119,7 @@ excess-is t x e =
     ap (λ (y : ℤ). pos (positivePart y)) d ∙ sym d
 
 -- one that does not reach t + 1 is not over t
-not-over : (t x : ℤ) → leZ (t +ℤ pos 1) x ≡ false → excess t x ≡ 0
+pub not-over : (t x : ℤ) → leZ (t +ℤ pos 1) x ≡ false → excess t x ≡ 0
 not-over t x e = by (x -ℤ t) refl
   where
     one-more : (m : ℕ) → suc m ≡ 1 + m

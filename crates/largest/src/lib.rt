@@ -2,7 +2,7 @@
 // are over it is added.
 ghost use mathlib.Core.Path.{_≡_};
 ghost use Prim.Native.Nat.{_≤_, _<_};
-ghost use lib.IntN.{pos, natAbs};
+ghost use lib.IntN.{pos, natAbs, _+ℤ_};
 ghost use Rattle.largest.specs.Largest.{largestSum};
 ghost use Rattle.largest.specs.Threshold.{valueAt, InRange, sumOver, reaches, excess, IsKth};
 
@@ -11,31 +11,31 @@ const HALF_RANGE: i32 = 8388608;
 
 const RANGE: u32 = 16777216;
 
-// How many of values[..n] are at least t.
+// How many of values[..n] are at least t: all of them, less one for each that is below.
 fn count_from(values: &[i32], n: usize, t: i32) -> u32
     requires { ⌜ InRange (now values) n ⌝ }
     ensures { λ r. ⌜ r ≡ sumOver (reaches t) (valueAt (now (values .entry))) n ⌝ }
 {
-    let mut count: u32 = 0;
+    let mut count = n as u32;
     let mut j: usize = 0;
     while j < n {
         let value = values[j];
-        count += (t <= value) as u32;
+        count -= (value < t) as u32;
         j += 1;
     }
     count
 }
 
-// By how much those of values[..n] that are over t are over it, in sum.
-fn excess_over(values: &[i32], n: usize, t: i32) -> i64
-    requires { ⌜ InRange (now values) n × (natAbs t ≤ 33554432) ⌝ }
+// By how much those of values[..n] that are over t are over it, in sum. There are fewer than 64.
+fn excess_over(values: &[i32], n: usize, t: i32) -> i32
+    requires { ⌜ InRange (now values) n × (natAbs t ≤ 25165824) × (sumOver (reaches (t +ℤ pos 1)) (valueAt (now values)) n < 64) ⌝ }
     ensures { λ r. ⌜ r ≡ pos (sumOver (excess t) (valueAt (now (values .entry))) n) ⌝ }
 {
-    let mut sum: i64 = 0;
+    let mut sum: i32 = 0;
     let mut j: usize = 0;
     while j < n {
         let over = values[j] - t;
-        sum += signed::kept(over, 0 <= over) as i64;
+        sum += signed::kept(over, 0 <= over);
         j += 1;
     }
     sum
@@ -44,7 +44,7 @@ fn excess_over(values: &[i32], n: usize, t: i32) -> i64
 // The k-th largest of values[..n]. It is in t .. t + width - 1, and the upper half is taken where k values reach it.
 fn kth_largest(values: &[i32], n: usize, k: u32) -> i32
     requires { ⌜ InRange (now values) n × (0 < k) × (k ≤ n) ⌝ }
-    ensures { λ r. ⌜ IsKth (valueAt (now (values .entry))) n k r × (natAbs r ≤ 33554432) ⌝ }
+    ensures { λ r. ⌜ IsKth (valueAt (now (values .entry))) n k r × (natAbs r ≤ 25165824) ⌝ }
 {
     let mut t: i32 = 0 - HALF_RANGE;
     let mut width: u32 = RANGE;
@@ -64,5 +64,5 @@ pub fn largest_sum(values: &[i32], n: usize, k: usize) -> i32
 {
     let t = kth_largest(values, n, k as u32);
     let over = excess_over(values, n, t);
-    ((k as i64) * (t as i64) + over) as i32
+    (k as i32) * t + over
 }

@@ -38,7 +38,7 @@ module _ (c : tie.In-loop Inv-loop μ-loop) where
   abbrev half : ℕ
   half = c .before .loop .width / 2
 
-  half-small : natAbs (toZ w32 (c .before .loop .t)) + half ≤ 33554432
+  half-small : natAbs (toZ w32 (c .before .loop .t)) + half ≤ 25165824
   half-small = let s = c .before .loop .inv .small in omega arith
 
   half-back : toZ w32 half ≡ pos half

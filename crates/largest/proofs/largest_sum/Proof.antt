@@ -1,11 +1,11 @@
 -- `largest::largest_sum` meets its contract: k times the k-th largest, and by how much the others are over it. Assumes nothing.
 use borrow.Author.Needs.{needs}
-use mathlib.Core.Path.{_≡_, refl, sym, ap, ap₂, _∙_}
+use mathlib.Core.Path.{_≡_, sym, ap, _∙_}
 use Prim.Native.Nat.{ℕ, _*_, _≤_}
 use native.Mathlib.Nat.{mul-le-mul}
 use native.Mathlib.Omega.{arith}
 use lib.IntN.{ℤ, pos, natAbs, _+ℤ_, _*ℤ_}
-use mir.Syntax.{w32, w64}
+use mir.Syntax.{w32}
 use mir.Val.{SFits, toZ, ofZ}
 use mir.ValLaws.{toZ-pos}
 use Rattle.signed.proofs.Signs.{abs-mul, read-back, fits-of-abs}
@@ -21,6 +21,9 @@ use Rattle.largest.proofs.largest_sum.Tie as tie
 abbrev found : tie.After-excess-over → tie.After-kth-largest
 found c = c .before
 
+abbrev start : tie.After-kth-largest → tie.Start
+start c = c .before
+
 -- ** What is found
 
 t-back : (c : tie.After-kth-largest) → toZ w32 (ofZ w32 (c .kth-largest .result)) ≡ c .kth-largest .result
@@ -31,39 +34,37 @@ module _ (c : tie.After-excess-over) where
   t = found c .kth-largest .result
 
   abbrev k : ℕ
-  k = found c .before .args .k
+  k = start (found c) .args .k
 
-  abbrev f : ℕ → ℤ
-  f = valueAt (found c .before .args .values .now)
+  abbrev sum : ℤ
+  sum = largestSum (valueAt (start (found c) .args .values .now)) (start (found c) .args .n) k
 
-  t-small : natAbs t ≤ 33554432
-  t-small = found c .kth-largest .ensures .1
+  k-back : toZ w32 k ≡ pos k
+  k-back = toZ-pos w32 k (omega (arith, start (found c) .pre .3))
 
-  t-fits : SFits w64 t
-  t-fits = fits-of-abs (omega (arith, t-small))
+  product-fits : SFits w32 (pos k *ℤ t)
+  product-fits =
+      let few = mul-le-mul (start (found c) .pre .3) (found c .kth-largest .ensures .1) in
+      fits-of-abs (omega (arith, abs-mul (pos k) t, few))
 
-  k-back : toZ w64 k ≡ pos k
-  k-back = toZ-pos w64 k (omega (arith, found c .before .pre .3))
-
-  product-small : natAbs (pos k *ℤ t) ≤ 64 * 33554432
-  product-small = rw (abs-mul (pos k) t) (mul-le-mul (found c .before .pre .3) t-small)
-
-  product-fits : SFits w64 (pos k *ℤ t)
-  product-fits = fits-of-abs (omega (arith, product-small))
-
-  over-back : toZ w64 (ofZ w64 (c .excess-over .result)) ≡ c .excess-over .result
-  over-back = read-back (record { sfits = c .excess-over .ok })
-
-  sum-is : (pos k *ℤ t) +ℤ c .excess-over .result ≡ largestSum f (found c .before .args .n) k
+  sum-is : (pos k *ℤ t) +ℤ c .excess-over .result ≡ sum
   sum-is =
+      let s = start (found c) in
       ap (λ (x : ℤ). (pos k *ℤ t) +ℤ x) (c .excess-over .ensures ∙ rw (t-back (found c)))
-      ∙ sym (largest-by-kth f (found c .before .args .n) k t (found c .kth-largest .ensures .0))
+      ∙ sym (largest-by-kth (valueAt (s .args .values .now)) (s .args .n) k t (found c .kth-largest .ensures .0))
 
-  sum-small : natAbs (largestSum f (found c .before .args .n) k) ≤ 64 * 8388608
-  sum-small =
-      let s = found c .before in
+  sum-fits : SFits w32 sum
+  sum-fits =
+      let s = start (found c) in
       let few = s .pre .3 in
-      omega (arith, largestSum-small 8388608 f (s .args .n) k (λ j h. omega (arith, s .pre .0 .small j)))
+      let small = largestSum-small 8388608 (valueAt (s .args .values .now)) (s .args .n) k (λ j h. omega (arith, s .pre .0 .small j)) in
+      fits-of-abs (omega (arith, small))
+
+  -- what the code works out
+  sum-made : toZ w32 (ofZ w32 (toZ w32 k *ℤ toZ w32 (ofZ w32 t))) +ℤ toZ w32 (ofZ w32 (c .excess-over .result)) ≡ sum
+  sum-made =
+      rw (t-back (found c), k-back, read-back product-fits, read-back {z = c .excess-over .result} (record { sfits = c .excess-over .ok }))
+      sum-is
 
 -- ** What the code asks for
 
@@ -74,33 +75,21 @@ kth-largest-requires : tie.Need-kth-largest-requires
 kth-largest-requires c κs = search needs
 
 excess-over-requires : tie.Need-excess-over-requires
-excess-over-requires c κs = rw (t-back c) (c .before .pre .0, c .kth-largest .ensures .1)
+excess-over-requires c κs =
+    let few = c .kth-largest .ensures .0 .over in
+    rw (t-back c) (start c .pre .0, c .kth-largest .ensures .1, omega (arith, few, start c .pre .3))
 
 cast-result : tie.Need-cast-result
 cast-result c = search needs
 
-cast-result-2 : tie.Need-cast-result-2
-cast-result-2 c = rw (t-back (found c)) (t-fits c)
-
 mul-result : tie.Need-mul-result
-mul-result c = rw (t-back (found c), read-back (t-fits c), k-back c) (product-fits c)
-
--- what the code works out
-sum-made : (c : tie.After-excess-over)
-    → toZ w64 (ofZ w64 (toZ w64 (k c) *ℤ toZ w64 (ofZ w64 (toZ w32 (ofZ w32 (t c)))))) +ℤ toZ w64 (ofZ w64 (c .excess-over .result))
-    ≡ largestSum (f c) (found c .before .args .n) (k c)
-sum-made c =
-    rw (t-back (found c), read-back (t-fits c), k-back c, read-back (product-fits c), over-back c)
-    (sum-is c)
+mul-result c = rw (t-back (found c), k-back c) (product-fits c)
 
 add-result : tie.Need-add-result
-add-result c = rw (sum-made c) (fits-of-abs (omega (arith, sum-small c)))
-
-cast-result-3 : tie.Need-cast-result-3
-cast-result-3 c = rw (read-back (add-result c), sum-made c) (fits-of-abs (omega (arith, sum-small c)))
+add-result c = rw (sum-made c) (sum-fits c)
 
 returns : tie.Need-returns
-returns c = rw (read-back (cast-result-3 c), read-back (add-result c), sum-made c)
+returns c = read-back (add-result c) ∙ sum-made c
 
 pub largest-sum-spec : {M : Type 1} → statement M
 largest-sum-spec =
@@ -110,8 +99,6 @@ largest-sum-spec =
     kth-largest-requires
     excess-over-requires
     cast-result
-    cast-result-2
     mul-result
     add-result
-    cast-result-3
     returns)
