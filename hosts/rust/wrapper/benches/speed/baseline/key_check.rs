@@ -55,12 +55,13 @@ fn largest_sum(values: &[i32], k: i32) -> i32 {
     k * kth + values.iter().map(|value| (value - kth).max(0)).sum::<i32>()
 }
 
-/// The k-th largest, bit by bit: a bit is taken where k values reach it.
+/// The k-th largest, bit by bit: a bit is taken where k values reach it. Those below it are counted, since a comparison gives -1
+/// for each of them at once.
 fn kth_largest(values: &[i32], k: i32) -> i32 {
     (0..=BITS).rev().fold(-(1 << BITS), |t, bit| {
         let next = t + (1 << bit);
-        let count: i32 = values.iter().map(|value| i32::from(*value >= next)).sum();
-        if count >= k {
+        let below: i32 = values.iter().map(|value| i32::from(*value < next)).sum();
+        if values.len() as i32 - below >= k {
             next
         } else {
             t
