@@ -3,6 +3,7 @@ use mathlib.Core.Path.{_≡_, refl, sym, ap, subst, _∙_}
 use mathlib.Core.Bool.{true, false, _&&_}
 use mathlib.Core.List.{List, [], _∷_}
 use Prim.Native.Nat.{ℕ, zero, suc, _+_, _-_, _≤_, _<_}
+use native.Mathlib.Decide.{decLe}
 use native.Mathlib.Omega.{arith}
 use lib.Dec.{ltb}
 use lib.ListN.{length, getD}
@@ -15,12 +16,12 @@ use Rattle.checks.proofs.JoinedTests.{both-true}
 use Rattle.checks.proofs.AllBelow.{all-at}
 use Rattle.checks.proofs.Lines.{numbered, testOf, passes}
 use Rattle.largest.specs.Largest.{sumAt, areDifferent}
+use Rattle.largest.proofs.Falling.{largestSum-same, largestSum-all}
 use Rattle.largest.proofs.Places.{places-more}
 use Rattle.largest.proofs.LargestSum.{at-most}
 use Rattle.challenge.specs.Challenge.{lengthFits, positionsBelow, ascends, arePositions, isChallenge}
 use Rattle.challenge.proofs.Positions.{position-below}
 use Rattle.challenge_product.specs.Product.{product}
-use Rattle.response.specs.ByRule.{AllTestsPass}
 use Rattle.session.proofs.Calls.{respond-passed}
 use Rattle.session.proofs.ByRule.{served-respond-by-rule}
 use Rattle.key_check.specs.KeyCheck.{table, rowSum, finalSum, keyTests, keyRefusal, keyAnswer}
@@ -70,12 +71,25 @@ different-down n (suc count) h =
 from-zero : (m : ℕ) → Le (pos 0) (pos m)
 from-zero m = record { more = m; is = sym (+ℤ-idl (pos m)) }
 
-pub never-negative : NeverNegative
-never-negative key n count h =
+least-zero : (key : List ℤ) (n count : ℕ) → count ≤ n → Le (pos 0) (finalSum key n count)
+least-zero key n count h =
     let places = down count in
-    size-of-le (finalSum key n count)
-    (subst (λ (k : ℕ). Le (pos 0) (finalSum key n k)) (length-down count)
-    (le-then (from-zero (squareSum (product key n places))) (squares-at-most key n places (different-down n count h))))
+    subst (λ (k : ℕ). Le (pos 0) (finalSum key n k)) (length-down count)
+    (le-then (from-zero (squareSum (product key n places))) (squares-at-most key n places (different-down n count h)))
+
+-- more than n are not there
+at-length-n : (key : List ℤ) (n count : ℕ) → n ≤ count → finalSum key n n ≡ finalSum key n count
+unfolding rowSum finalSum
+at-length-n key n count h =
+    sym (largestSum-all (rowSum key n count) n count h
+    ∙ largestSum-same (rowSum key n count) (rowSum key n n) n n (λ i g. largestSum-all (table key n i) n count h))
+
+pub never-negative : NeverNegative
+never-negative key n count = size-of-le (finalSum key n count) (by (decLe count n))
+  where
+    by : Dec (count ≤ n) → Le (pos 0) (finalSum key n count)
+    by (yes h) = least-zero key n count h
+    by (no h) = subst (Le (pos 0)) (at-length-n key n count (omega arith)) (least-zero key n n (omega arith))
 
 -- ** The positions of a challenge are different places
 

@@ -6,7 +6,7 @@ use native.Mathlib.Nat.{mul-le-mul-right}
 use native.Mathlib.Omega.{arith}
 use native.Mathlib.Numerals.{add-one}
 use native.Mathlib.Decide.{ℕ-discrete, decLt}
-use lib.ListN.{length, getD, set, length-set, replicate, length-replicate}
+use lib.ListN.{getD, set, length-set, replicate, length-replicate}
 use lib.Seq.{getD-set-same, getD-set-other}
 use lib.IntN.{ℤ, pos, negℤ, natAbs, _+ℤ_}
 use Rattle.signed.proofs.Signs.{abs-add, abs-neg}
@@ -14,7 +14,7 @@ use Rattle.largest.specs.Largest.{largestSum}
 use Rattle.largest.specs.Threshold.{valueAt, InRange}
 use Rattle.largest.proofs.Falling.{largestSum-same, largestSum-small}
 use Rattle.key_check.specs.KeyCheck.{table, rowSum, finalSum}
-use Rattle.key_check.specs.Rows.{Keyed, sumTo, terms, Holds, entryBound, rowSumBound, HoldsRow, MovedOn}
+use Rattle.key_check.specs.Rows.{sumTo, terms, Holds, entryBound, rowSumBound, HoldsRow, MovedOn}
 use Rattle.key_check.proofs.Table.{table-is, symmetric, table-on, next-first}
 
 -- ** A buffer that holds the first values of a function

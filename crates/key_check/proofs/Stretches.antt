@@ -12,7 +12,7 @@ use Rattle.signed.specs.Vectors.{allWithin}
 use Rattle.signed.proofs.Signs.{abs-add, abs-mul}
 use Rattle.signed.proofs.Vectors.{within-at}
 use Rattle.signed.proofs.Integers.{neg-*ℤ}
-use Rattle.challenge_product.specs.Product.{keyBound, termAt}
+use Rattle.challenge_product.specs.Product.{keyBound}
 use Rattle.challenge_product.proofs.Modulo.{term-direct, term-wrapped}
 use Rattle.key_check.specs.Rows.{sumTo, productAt, terms}
 use Rattle.key_check.proofs.Table.{sumTo-same, sumTo-neg}

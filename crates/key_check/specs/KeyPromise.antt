@@ -17,7 +17,7 @@ use Rattle.key_check.specs.KeyCheck.{finalSum, keyAnswer}
 
 -- the final sum is a number without a sign
 abbrev pub NeverNegative : Type 0
-NeverNegative = (key : List ℤ) (n count : ℕ) → count ≤ n → finalSum key n count ≡ pos (natAbs (finalSum key n count))
+NeverNegative = (key : List ℤ) (n count : ℕ) → finalSum key n count ≡ pos (natAbs (finalSum key n count))
 
 -- for a key that passes at a length, A of no challenge of just that length is over 46,225
 abbrev pub KeyPromise : Type 0

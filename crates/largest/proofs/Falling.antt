@@ -5,6 +5,7 @@ use mathlib.Core.List.{List, [], _∷_}
 use Prim.Native.Nat.{ℕ, zero, suc, _+_, _*_, _≤_, _<_}
 use native.Mathlib.Omega.{arith}
 use lib.ListN.{length, getD, take}
+use lib.Seq.{take-all}
 use lib.IntN.{ℤ, pos, natAbs, _+ℤ_, +ℤ-assoc, +ℤ-comm}
 use lib.Signed.{leZ}
 use Rattle.signed.proofs.Signs.{abs-add}
@@ -54,6 +55,13 @@ falling-same f g (suc n) e = ap₂ (λ (x : ℤ) (l : List ℤ). insert x l) (e 
 pub largestSum-same : (f g : ℕ → ℤ) (n k : ℕ) → ((j : ℕ) → j < n → f j ≡ g j) → largestSum f n k ≡ largestSum g n k
 unfolding largestSum
 largestSum-same f g n k e = ap (λ (l : List ℤ). total (take k l)) (falling-same f g n e)
+
+-- of more than there are, all are summed
+pub largestSum-all : (f : ℕ → ℤ) (n k : ℕ) → n ≤ k → largestSum f n k ≡ largestSum f n n
+unfolding largestSum
+largestSum-all f n k h =
+    let l = length-falling f n in
+    ap total (take-all k (falling f n) (omega arith) ∙ sym (take-all n (falling f n) (omega arith)))
 
 -- one more in the list makes no sum of the first k smaller
 pub insert-more : (k : ℕ) (x : ℤ) (values : List ℤ) → k ≤ length values → Le (total (take k values)) (total (take k (insert x values)))

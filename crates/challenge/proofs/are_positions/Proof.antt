@@ -1,7 +1,5 @@
 -- `challenge::are_positions` meets its contract: the positions are looked at where there are not too many. Assumes nothing.
 use borrow.Author.Needs.{needs}
-use mathlib.Core.Path.{_≡_}
-use lib.ListN.{length}
 use Rattle.checks.proofs.JoinedTests.{holds, fails}
 use Rattle.challenge.specs.Challenge.{arePositions}
 use Rattle.challenge.proofs.are_positions.Statement.{statement}

@@ -2,20 +2,17 @@
 use borrow.Author.Needs.{needs}
 use mathlib.Core.Path.{_≡_, refl, sym, _∙_}
 use mathlib.Core.Bool.{true}
-use mathlib.Core.List.{List, []}
-use Prim.Native.Nat.{ℕ, _*_, _≤_, _<_}
+use Prim.Native.Nat.{ℕ, _≤_}
 use native.Mathlib.Omega.{arith}
 use lib.Dec.{leb, ltb}
-use lib.ListN.{length}
 use borrow.Author.Tests.{leb-true, ltb-true, le-leb, lt-leb, eq-eqb, ne-eqb}
 use Rattle.signed.specs.Vectors.{allWithin}
-use Rattle.checks.specs.Checks.{isDegree, Line, firstRefusal}
+use Rattle.checks.specs.Checks.{isDegree, firstRefusal}
 use Rattle.checks.proofs.JoinedTests.{holds, fails, both-true}
 use Rattle.checks.proofs.Degrees.{degree-range}
 use Rattle.checks.proofs.Lines.{from, Reached, leaves, goes-on}
 use Rattle.challenge.specs.Challenge.{lengthFits}
 use Rattle.key_check.specs.KeyCheck.{isLength, keyTests, keyRefusal}
-use Rattle.key_check.specs.Rows.{Keyed}
 use Rattle.key_check.proofs.Answers.{answer-refused, answer-passed, sum-tested}
 use Rattle.key_check.proofs.check_key.Statement.{statement}
 use Rattle.key_check.proofs.check_key.Tie as tie

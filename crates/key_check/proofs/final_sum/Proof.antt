@@ -1,7 +1,7 @@
 -- `key_check::final_sum` meets its contract: before turn i row i is held, and the sums of the rows before it. Assumes nothing.
 use borrow.Author.Needs.{needs}
 use mathlib.Core.Path.{_≡_, refl, sym, _∙_}
-use Prim.Native.Nat.{_-_, _*_, _≤_}
+use Prim.Native.Nat.{_-_, _≤_}
 use native.Mathlib.Omega.{arith}
 use lib.IntN.{pos, natAbs}
 use mir.Syntax.{w32}
@@ -128,7 +128,7 @@ sum-is c =
     read-back (record { sfits = c .largest-sum2 .ok })
     ∙ c .largest-sum2 .ensures
     ∙ final-sum (s .args .key .now) (s .args .n) (s .args .count) (s .pre .3) (l .loop .sums) (all-held (done c)) .0
-    ∙ never-negative (s .args .key .now) (s .args .n) (s .args .count) (s .pre .2)
+    ∙ never-negative (s .args .key .now) (s .args .n) (s .args .count)
 
 cast-result : tie.Need-cast-result Inv-loop μ-loop
 cast-result c =
@@ -140,7 +140,7 @@ cast-result c =
 returns : tie.Need-returns Inv-loop μ-loop
 returns c =
     let s = start (done c .before) in
-    rw (sum-is c) (sym (never-negative (s .args .key .now) (s .args .n) (s .args .count) (s .pre .2)))
+    rw (sum-is c) (sym (never-negative (s .args .key .now) (s .args .n) (s .args .count)))
 
 pub final-sum-spec : {M : Type 1} → statement M
 final-sum-spec =

@@ -1,13 +1,12 @@
 -- `key_check::half_inner` meets its contract: from place c on the rotation is direct, and before it wraps. Assumes nothing.
 use borrow.Author.Needs.{needs}
 use mathlib.Core.Path.{_≡_, ap₂, _∙_}
-use Prim.Native.Nat.{_-_, _*_, _+_, _≤_}
+use Prim.Native.Nat.{_-_, _*_, _≤_}
 use native.Mathlib.Omega.{arith}
 use lib.IntN.{ℤ, negℤ, natAbs, _-ℤ_}
 use mir.Syntax.{w32}
 use mir.Val.{SFits, toZ, ofZ}
 use Rattle.signed.proofs.Signs.{abs-add, abs-neg, read-back, fits-of-abs}
-use Rattle.key_check.specs.Rows.{sumTo, terms}
 use Rattle.key_check.proofs.Stretches.{half-by-stretches}
 use Rattle.key_check.proofs.half_inner.Statement.{statement}
 use Rattle.key_check.proofs.half_inner.Tie as tie

@@ -3,10 +3,10 @@ use borrow.Author.Needs.{needs, sfits-of}
 use mathlib.Core.Path.{_≡_, ap, _∙_}
 use Prim.Native.Nat.{_-_}
 use native.Mathlib.Omega.{arith}
-use lib.IntN.{pos, negℤ, _-ℤ_}
+use lib.IntN.{pos, negℤ}
 use lib.ListN.{getD}
 use mir.Syntax.{w32}
-use mir.Val.{SFits, toZ, ofZ}
+use mir.Val.{toZ, ofZ}
 use Rattle.signed.proofs.Signs.{read-back, zero-minus, zero-minus-fits}
 use Rattle.key_check.proofs.MovingOn.{Moving, moving-none, moving-more, moving-done}
 use Rattle.key_check.proofs.next_row.Statement.{statement}
