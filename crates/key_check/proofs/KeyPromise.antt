@@ -1,26 +1,22 @@
 -- For a key that passes, A of no challenge of just that length is over 46,225. Assumes nothing.
 use mathlib.Core.Path.{_≡_, refl, sym, ap, subst, _∙_}
-use mathlib.Core.Bool.{true, false, _&&_}
+use mathlib.Core.Bool.{true, false}
 use mathlib.Core.List.{List, [], _∷_}
 use Prim.Native.Nat.{ℕ, zero, suc, _+_, _-_, _≤_, _<_}
 use native.Mathlib.Decide.{decLe}
 use native.Mathlib.Omega.{arith}
-use lib.Dec.{ltb}
 use lib.ListN.{length, getD}
 use lib.IntN.{ℤ, pos, +ℤ-idl}
-use borrow.Author.Tests.{ltb-true, ne-eqb}
+use borrow.Author.Tests.{ne-eqb}
 use Rattle.signed.specs.Vectors.{squareSum}
 use Rattle.signed.proofs.Integers.{Le, le-same, le-is, le-then, le-sum, le-of-test, le-pos, size-of-le}
 use Rattle.checks.specs.Checks.{among}
-use Rattle.checks.proofs.JoinedTests.{both-true}
-use Rattle.checks.proofs.AllBelow.{all-at}
 use Rattle.checks.proofs.Lines.{numbered, testOf, passes}
 use Rattle.largest.specs.Largest.{sumAt, areDifferent}
 use Rattle.largest.proofs.Falling.{largestSum-same, largestSum-all}
 use Rattle.largest.proofs.Places.{places-more}
 use Rattle.largest.proofs.LargestSum.{at-most}
-use Rattle.challenge.specs.Challenge.{lengthFits, positionsBelow, ascends, arePositions, isChallenge}
-use Rattle.challenge.proofs.Positions.{position-below}
+use Rattle.challenge.proofs.Positions.{Challenge, challenge-of, position-below, position-rises}
 use Rattle.challenge_product.specs.Product.{product}
 use Rattle.session.proofs.Calls.{respond-passed}
 use Rattle.session.proofs.ByRule.{served-respond-by-rule}
@@ -119,15 +115,9 @@ different-of n (c ∷ challenge) b a =
     places-more n c challenge (b 0 (omega arith)) (not-among-rest c challenge a)
     (different-of n challenge (λ k h. b (suc k) (omega arith)) (λ k h. a (suc k) (omega arith)))
 
-challenge-different : (n : ℕ) (challenge : List ℕ) → isChallenge n challenge ≡ true → areDifferent n challenge ≡ true
-unfolding isChallenge arePositions ascends
-challenge-different n challenge h =
-    let p = both-true (ltb 0 (length challenge)) (arePositions n challenge) h in
-    let q = both-true (lengthFits n (length challenge)) (positionsBelow n challenge && ascends challenge) (p .1) in
-    let r = both-true (positionsBelow n challenge) (ascends challenge) (q .1) in
-    different-of n challenge (λ k g. position-below n challenge k (r .0) g)
-    (λ k g. ltb-true (getD challenge k 0) (getD challenge (suc k) 0)
-    (all-at (λ (j : ℕ). ltb (getD challenge j 0) (getD challenge (suc j) 0)) k (length challenge - 1) (omega arith) (r .1)))
+challenge-different : (n : ℕ) (challenge : List ℕ) → Challenge n challenge → areDifferent n challenge ≡ true
+challenge-different n challenge c =
+    different-of n challenge (λ k h. position-below n challenge k (c .below) h) (λ k h. position-rises challenge k (c .rising) h)
 
 -- ** The promise
 
@@ -136,14 +126,18 @@ within-limit : (n : ℕ) (key : List ℤ) (count : ℕ) → keyAnswer n key coun
 unfolding keyAnswer keyRefusal testOf numbered
 within-limit n key count e = le-of-test (finalSum key n count) (pos 46225) (passes 13 (keyTests n key count) refl e)
 
+a-within : (n : ℕ) (key : List ℤ) (challenge : List ℕ) → keyAnswer n key (length challenge) .refusal ≡ 0 → Challenge n challenge
+    → squareSum (product key n challenge) ≤ 46225
+a-within n key challenge e c =
+    le-pos (squareSum (product key n challenge)) 46225
+    (le-then (squares-at-most key n challenge (challenge-different n challenge c)) (within-limit n key (length challenge) e))
+
 pub key-promise : KeyPromise
 key-promise n key count e challenge c l =
-    let a = squareSum (product key n challenge) in
-    let most = squares-at-most key n challenge (challenge-different n challenge c) in
-    le-pos a 46225 (le-then (subst (λ (k : ℕ). Le (pos a) (finalSum key n k)) l most) (within-limit n key count e))
+    a-within n key challenge (subst (λ (k : ℕ). keyAnswer n key k .refusal ≡ 0) (sym l) e) (challenge-of n challenge c)
 
 pub never-rejected-for-A : NeverRejectedForA
 never-rejected-for-A s r passed h z p =
     let by-rule = served-respond-by-rule s r h .bit z p in
-    let a = key-promise (s .degree) (r .key) (length (r .challenge)) passed (r .challenge) (respond-passed s r h .is-challenge) refl in
+    let a = a-within (s .degree) (r .key) (r .challenge) passed (respond-passed s r h .positions) in
     ((λ e. by-rule .0 e .others), (λ others. by-rule .1 (record { squares = a; others = others })))

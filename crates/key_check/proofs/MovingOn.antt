@@ -1,6 +1,6 @@
 -- A row moved on by one place, with minus its last value in front: the loop of `next_row`. Assumes nothing.
 use mathlib.Core.Path.{_≡_, refl, sym, ap, subst, _∙_}
-use mathlib.Core.List.{List, _∷_}
+use mathlib.Core.List.{List}
 use Prim.Native.Nat.{ℕ, _+_, _-_, _≤_, _<_}
 use native.Mathlib.Omega.{arith}
 use native.Mathlib.Numerals.{add-one}
@@ -8,18 +8,14 @@ use native.Mathlib.Decide.{ℕ-discrete}
 use lib.ListN.{length, getD, set, length-set}
 use lib.Seq.{getD-set-same, getD-set-other}
 use lib.IntN.{ℤ, pos, negℤ}
-use Rattle.key_check.specs.Rows.{MovedOn}
-
--- a row with minus its last value in front
-abbrev pub shifted : (n : ℕ) (row : List ℤ) → List ℤ
-shifted n row = negℤ (getD row (n - 1) (pos 0)) ∷ row
+use Rattle.key_check.specs.Rows.{turned, MovedOn}
 
 -- before turn j the first j values are moved on, and the next is carried
 pub record Moving (n : ℕ) (row₀ row : List ℤ) (carried : ℤ) (j : ℕ) : Type 0 where
   pub turns : j ≤ n
   pub size : length row ≡ length row₀
-  pub next : carried ≡ getD (shifted n row₀) j (pos 0)
-  pub on : (t : ℕ) → t < j → getD row t (pos 0) ≡ getD (shifted n row₀) t (pos 0)
+  pub next : carried ≡ getD (turned n row₀) j (pos 0)
+  pub on : (t : ℕ) → t < j → getD row t (pos 0) ≡ getD (turned n row₀) t (pos 0)
   pub rest : (t : ℕ) → j ≤ t → getD row t (pos 0) ≡ getD row₀ t (pos 0)
 
 module _ (n : ℕ) (row₀ : List ℤ) (fits : n ≤ length row₀) where
@@ -31,14 +27,14 @@ module _ (n : ℕ) (row₀ : List ℤ) (fits : n ≤ length row₀) where
   moving-more row carried entry j m h e = record {
     turns = omega arith;
     size = length-set row j carried ∙ m .size;
-    next = e ∙ m .rest j (omega arith) ∙ ap (λ (t : ℕ). getD (shifted n row₀) t (pos 0)) (sym (add-one j));
+    next = e ∙ m .rest j (omega arith) ∙ ap (λ (t : ℕ). getD (turned n row₀) t (pos 0)) (sym (add-one j));
     on = λ t g. on t (omega arith) (ℕ-discrete t j);
     rest = λ t g. getD-set-other row j t carried (pos 0) (λ q. omega (arith, q)) ∙ m .rest t (omega arith);
   }
     where
-      on : (t : ℕ) → t ≤ j → Dec (t ≡ j) → getD (set row j carried) t (pos 0) ≡ getD (shifted n row₀) t (pos 0)
+      on : (t : ℕ) → t ≤ j → Dec (t ≡ j) → getD (set row j carried) t (pos 0) ≡ getD (turned n row₀) t (pos 0)
       on t g (yes q) =
-          subst (λ (x : ℕ). getD (set row j carried) x (pos 0) ≡ getD (shifted n row₀) x (pos 0)) (sym q)
+          subst (λ (x : ℕ). getD (set row j carried) x (pos 0) ≡ getD (turned n row₀) x (pos 0)) (sym q)
           (getD-set-same row j carried (pos 0) (omega (arith, m .size)) ∙ m .next)
       on t g (no q) = getD-set-other row j t carried (pos 0) q ∙ m .on t (omega arith)
 

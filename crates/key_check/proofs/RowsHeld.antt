@@ -1,6 +1,6 @@
 -- The rows of the table, one at a time, and their sums: the loops of `first_row` and `final_sum`. Assumes nothing.
 use mathlib.Core.Path.{_≡_, refl, sym, ap, ap₂, subst, _∙_}
-use mathlib.Core.List.{List, _∷_}
+use mathlib.Core.List.{List}
 use Prim.Native.Nat.{ℕ, zero, suc, _+_, _-_, _*_, _≤_, _<_}
 use native.Mathlib.Nat.{mul-le-mul-right}
 use native.Mathlib.Omega.{arith}
@@ -11,10 +11,10 @@ use lib.Seq.{getD-set-same, getD-set-other}
 use lib.IntN.{ℤ, pos, negℤ, natAbs, _+ℤ_}
 use Rattle.signed.proofs.Signs.{abs-add, abs-neg}
 use Rattle.largest.specs.Largest.{largestSum}
-use Rattle.largest.specs.Threshold.{valueAt, InRange}
+use Rattle.largest.specs.Threshold.{valueAt, valueBound, InRange}
 use Rattle.largest.proofs.Falling.{largestSum-same, largestSum-small}
 use Rattle.key_check.specs.KeyCheck.{table, rowSum, finalSum}
-use Rattle.key_check.specs.Rows.{sumTo, terms, Holds, entryBound, rowSumBound, HoldsRow, MovedOn}
+use Rattle.key_check.specs.Rows.{sumTo, terms, Holds, entryBound, rowSumBound, HoldsRow, turned, MovedOn}
 use Rattle.key_check.proofs.Table.{table-is, symmetric, table-on, next-first}
 
 -- ** A buffer that holds the first values of a function
@@ -52,7 +52,7 @@ module _ (f : ℕ → ℤ) (bound : ℕ) where
       small j (no q) = rw (getD-set-other values n j v (pos 0) q) (h .small j)
 
   -- it can be summed up
-  pub in-range : (values : List ℤ) (n : ℕ) → Holds f bound values n → n ≤ 1024 → bound < 8388608 → InRange values n
+  pub in-range : (values : List ℤ) (n : ℕ) → Holds f bound values n → n ≤ 1024 → bound < valueBound → InRange values n
   in-range values n h few b = record { there = omega (arith, h .size); few = few; small = λ j. omega (arith, h .small j) }
 
   pub sum-of : (values : List ℤ) (n count : ℕ) → Holds f bound values n
@@ -78,13 +78,13 @@ module _ (key : List ℤ) (n : ℕ) where
     small = λ j. small j (decLt j n);
   }
     where
-      at : (j : ℕ) → j < n → getD (negℤ (getD row (n - 1) (pos 0)) ∷ row) j (pos 0) ≡ table key n (i + 1) j
+      at : (j : ℕ) → j < n → getD (turned n row) j (pos 0) ≡ table key n (i + 1) j
       at zero k =
           ap negℤ (r .at (n - 1) (omega arith)) ∙ sym (next-first key n i h) ∙ ap (λ (x : ℕ). table key n x 0) (sym (add-one i))
       at (suc j) k =
           r .at j (omega arith) ∙ sym (table-on key n i j h (omega arith)) ∙ ap (λ (x : ℕ). table key n x (suc j)) (sym (add-one i))
 
-      front : (j : ℕ) → natAbs (getD (negℤ (getD row (n - 1) (pos 0)) ∷ row) j (pos 0)) ≤ entryBound
+      front : (j : ℕ) → natAbs (getD (turned n row) j (pos 0)) ≤ entryBound
       front zero = rw (abs-neg (getD row (n - 1) (pos 0))) (r .small (n - 1))
       front (suc j) = r .small j
 

@@ -77,8 +77,8 @@ module _ (key : List ℤ) (n base c : ℕ) (h : c < n) where
       (term-direct key n base (c + p) c (omega arith) ∙ ap at (omega arith))
       (term-direct key n base (c + p) 0 (omega arith) ∙ ap at (omega arith))
 
-  pub half-by-stretches : sumTo (productAt key base (base + c)) (n - c) -ℤ sumTo (productAt key (base + (n - c)) base) c ≡ sumTo
-      (terms key n base c 0) n
+  pub half-by-stretches :
+      sumTo (productAt key base (base + c)) (n - c) -ℤ sumTo (productAt key (base + (n - c)) base) c ≡ sumTo (terms key n base c 0) n
   half-by-stretches =
       let behind = sumTo (productAt key base (base + c)) (n - c) in
       let before = sumTo (productAt key (base + (n - c)) base) c in

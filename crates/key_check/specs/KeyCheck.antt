@@ -38,6 +38,7 @@ finalSum key n count = largestSum (rowSum key n count) n count
 abbrev pub isLength : (n count : ℕ) → Bool
 isLength n count = ltb 0 count && lengthFits n count
 
+-- what it tests, in order
 abbrev pub keyTests : (n : ℕ) (key : List ℤ) (count : ℕ) → List Line
 keyTests n key count =
     line 1 (isDegree n)
@@ -51,6 +52,7 @@ keyTests n key count =
 unfoldable pub keyRefusal : (n : ℕ) (key : List ℤ) (count : ℕ) → ℕ
 keyRefusal n key count = firstRefusal (keyTests n key count)
 
+-- an answer, by its two numbers
 abbrev pub answer : (refusal sum : ℕ) → KeyCheck
 answer refusal sum = record { refusal = refusal; sum = sum }
 

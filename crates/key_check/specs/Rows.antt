@@ -47,8 +47,12 @@ rowSumBound = 64 * entryBound
 abbrev pub HoldsRow : (key : List ℤ) (n i : ℕ) (row : List ℤ) → Type 0
 HoldsRow key n i row = Holds (table key n i) entryBound row n
 
+-- minus the last value of row[..n], and then the row
+abbrev pub turned : (n : ℕ) (row : List ℤ) → List ℤ
+turned n row = negℤ (getD row (n - 1) (pos 0)) ∷ row
+
 -- row[..n] moved on by one place, with minus its last value in front
 pub record MovedOn (n : ℕ) (row row′ : List ℤ) : Type 0 where
   pub size : length row′ ≡ length row
-  pub on : (j : ℕ) → j < n → getD row′ j (pos 0) ≡ getD (negℤ (getD row (n - 1) (pos 0)) ∷ row) j (pos 0)
+  pub on : (j : ℕ) → j < n → getD row′ j (pos 0) ≡ getD (turned n row) j (pos 0)
   pub rest : (j : ℕ) → n ≤ j → getD row′ j (pos 0) ≡ getD row j (pos 0)

@@ -9,7 +9,7 @@ use lib.Pow.{pow-pos}
 use lib.Signed.{leZ}
 use borrow.Author.Tests.{leb-true, leb-false, le-leb, lt-leb}
 use Rattle.signed.proofs.Signs.{abs-add}
-use Rattle.largest.specs.Threshold.{sumOver, reaches, IsKth}
+use Rattle.largest.specs.Threshold.{valueBound, thresholdBound, sumOver, reaches, IsKth}
 use Rattle.largest.proofs.Threshold.{sum-alike}
 
 pub record Bracket (f : ℕ → ℤ) (n k : ℕ) (t : ℤ) (width : ℕ) : Type 0 where
@@ -17,20 +17,20 @@ pub record Bracket (f : ℕ → ℤ) (n k : ℕ) (t : ℤ) (width : ℕ) : Type 
   pub power : width ≡ 2 ^ exponent
   pub enough : k ≤ sumOver (reaches t) f n
   pub over : sumOver (reaches (t +ℤ pos width)) f n < k
-  pub small : natAbs t + width ≤ 25165824
+  pub small : natAbs t + width ≤ thresholdBound
 
 -- ** The start: all values are from -2 ^ 23 to 2 ^ 23 - 1
 
-reaches-low : (x : ℤ) → natAbs x < 8388608 → leZ (negsuc 8388607) x ≡ true
+reaches-low : (x : ℤ) → natAbs x < valueBound → leZ (negsuc 8388607) x ≡ true
 reaches-low (pos m) h = refl
 reaches-low (negsuc m) h = le-leb m 8388607 (omega arith)
 
-not-reaches-high : (x : ℤ) → natAbs x < 8388608 → leZ (pos 8388608) x ≡ false
+not-reaches-high : (x : ℤ) → natAbs x < valueBound → leZ (pos 8388608) x ≡ false
 not-reaches-high (pos m) h = lt-leb 8388608 m (omega arith)
 not-reaches-high (negsuc m) h = refl
 
 module _ (f : ℕ → ℤ) (n k : ℕ) where
-  pub bracket-start : ((j : ℕ) → natAbs (f j) < 8388608) → 0 < k → k ≤ n → Bracket f n k (negsuc 8388607) 16777216
+  pub bracket-start : ((j : ℕ) → natAbs (f j) < valueBound) → 0 < k → k ≤ n → Bracket f n k (negsuc 8388607) 16777216
   bracket-start small positive most = record {
     exponent = 24;
     power = refl;

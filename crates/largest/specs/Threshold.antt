@@ -10,11 +10,19 @@ use lib.Signed.{leZ}
 abbrev pub valueAt : (values : List ℤ) (j : ℕ) → ℤ
 valueAt values j = getD values j (pos 0)
 
--- what the functions ask of values[..n]: they are there, not too many, and from -(2 ^ 23 - 1) to 2 ^ 23 - 1
+-- the sizes of values are below 2 ^ 23
+abbrev pub valueBound : ℕ
+valueBound = 8388608
+
+-- those of thresholds are at most 2 ^ 23 + 2 ^ 24: the search starts at -2 ^ 23, and goes up by less than 2 ^ 24
+abbrev pub thresholdBound : ℕ
+thresholdBound = 25165824
+
+-- what the functions ask of values[..n]: they are there, not too many, and small
 pub record InRange (values : List ℤ) (n : ℕ) : Type 0 where
   pub there : n ≤ length values
   pub few : n ≤ 1024
-  pub small : (j : ℕ) → natAbs (valueAt values j) < 8388608
+  pub small : (j : ℕ) → natAbs (valueAt values j) < valueBound
 
 -- g (f 0) + .. + g (f (n - 1))
 unfoldable pub sumOver : (g : ℤ → ℕ) (f : ℕ → ℤ) (n : ℕ) → ℕ

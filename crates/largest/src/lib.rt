@@ -4,9 +4,9 @@ ghost use mathlib.Core.Path.{_≡_};
 ghost use Prim.Native.Nat.{_≤_, _<_};
 ghost use lib.IntN.{pos, natAbs, _+ℤ_};
 ghost use Rattle.largest.specs.Largest.{largestSum};
-ghost use Rattle.largest.specs.Threshold.{valueAt, InRange, sumOver, reaches, excess, IsKth};
+ghost use Rattle.largest.specs.Threshold.{valueAt, thresholdBound, InRange, sumOver, reaches, excess, IsKth};
 
-// Values are from -2^23 to 2^23 - 1.
+// The sizes of values are below 2^23: so the k-th largest is looked for from -2^23 on, at first in a width of 2^24.
 const HALF_RANGE: i32 = 8388608;
 
 const RANGE: u32 = 16777216;
@@ -28,7 +28,9 @@ fn count_from(values: &[i32], n: usize, t: i32) -> u32
 
 // By how much those of values[..n] that are over t are over it, in sum. There are fewer than 64.
 fn excess_over(values: &[i32], n: usize, t: i32) -> i32
-    requires { ⌜ InRange (now values) n × (natAbs t ≤ 25165824) × (sumOver (reaches (t +ℤ pos 1)) (valueAt (now values)) n < 64) ⌝ }
+    requires { ⌜ InRange (now values) n
+        × (natAbs t ≤ thresholdBound)
+        × (sumOver (reaches (t +ℤ pos 1)) (valueAt (now values)) n < 64) ⌝ }
     ensures { λ r. ⌜ r ≡ pos (sumOver (excess t) (valueAt (now (values .entry))) n) ⌝ }
 {
     let mut sum: i32 = 0;
@@ -44,7 +46,7 @@ fn excess_over(values: &[i32], n: usize, t: i32) -> i32
 // The k-th largest of values[..n]. It is in t .. t + width - 1, and the upper half is taken where k values reach it.
 fn kth_largest(values: &[i32], n: usize, k: u32) -> i32
     requires { ⌜ InRange (now values) n × (0 < k) × (k ≤ n) ⌝ }
-    ensures { λ r. ⌜ IsKth (valueAt (now (values .entry))) n k r × (natAbs r ≤ 25165824) ⌝ }
+    ensures { λ r. ⌜ IsKth (valueAt (now (values .entry))) n k r × (natAbs r ≤ thresholdBound) ⌝ }
 {
     let mut t: i32 = 0 - HALF_RANGE;
     let mut width: u32 = RANGE;

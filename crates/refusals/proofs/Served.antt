@@ -14,7 +14,6 @@ use Rattle.checks.proofs.Lines.{numbered, testOf, passes}
 use Rattle.exponential.specs.Exponential.{polynomial}
 use Rattle.exponential.proofs.Table.{polynomial-of}
 use Rattle.base_sample.specs.BaseSample.{wordsSmall, neverFalls, isCdt}
-use Rattle.challenge.specs.Challenge.{isChallenge}
 use Rattle.challenge.proofs.Positions.{Challenge, challenge-of}
 use Rattle.challenge_product.specs.Product.{keyBound}
 use Rattle.sampler.specs.Draw.{drawListLength}
@@ -56,7 +55,6 @@ pub record RespondServed (n : ℕ) (drawn : Bool) (challenge table : List ℕ) (
   pub y-both : length y ≡ 2 * n
   pub z-both : z ≡ 2 * n
   pub key-both : length key ≡ 2 * n
-  pub is-challenge : isChallenge n challenge ≡ true
   pub positions : Challenge n challenge
   pub words-enough : 3 ≤ words
   pub list-enough : respondListLength n (length challenge) ≤ list
@@ -78,7 +76,6 @@ respond-served n drawn challenge table words key y z list h =
       y-both = eqb-true (length y) (2 * n) (sizes .0);
       z-both = eqb-true z (2 * n) (z-key .0);
       key-both = eqb-true (length key) (2 * n) (z-key .1);
-      is-challenge = p 6;
       positions = challenge-of n challenge (p 6);
       words-enough = leb-true 3 words (p 7);
       list-enough = leb-true (respondListLength n (length challenge)) list (p 8);

@@ -10,7 +10,7 @@ use mir.Syntax.{w32}
 use mir.Val.{SFits, toZ, ofZ}
 use mir.ValLaws.{toZ-pos}
 use Rattle.signed.proofs.Signs.{abs-add, read-back, fits-of-abs}
-use Rattle.largest.specs.Threshold.{valueAt, sumOver, reaches}
+use Rattle.largest.specs.Threshold.{valueAt, thresholdBound, sumOver, reaches}
 use Rattle.largest.proofs.Bracket.{Bracket, bracket-start, halved, bracket-turn, bracket-end}
 use Rattle.largest.proofs.kth_largest.Statement.{statement}
 use Rattle.largest.proofs.kth_largest.Tie as tie
@@ -38,7 +38,7 @@ module _ (c : tie.In-loop Inv-loop μ-loop) where
   abbrev half : ℕ
   half = c .before .loop .width / 2
 
-  half-small : natAbs (toZ w32 (c .before .loop .t)) + half ≤ 25165824
+  half-small : natAbs (toZ w32 (c .before .loop .t)) + half ≤ thresholdBound
   half-small = let s = c .before .loop .inv .small in omega arith
 
   half-back : toZ w32 half ≡ pos half

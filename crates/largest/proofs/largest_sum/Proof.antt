@@ -10,7 +10,7 @@ use mir.Val.{SFits, toZ, ofZ}
 use mir.ValLaws.{toZ-pos}
 use Rattle.signed.proofs.Signs.{abs-mul, read-back, fits-of-abs}
 use Rattle.largest.specs.Largest.{largestSum}
-use Rattle.largest.specs.Threshold.{valueAt}
+use Rattle.largest.specs.Threshold.{valueAt, valueBound}
 use Rattle.largest.proofs.Falling.{largestSum-small}
 use Rattle.largest.proofs.Threshold.{largest-by-kth}
 use Rattle.largest.proofs.largest_sum.Statement.{statement}
@@ -57,7 +57,7 @@ module _ (c : tie.After-excess-over) where
   sum-fits =
       let s = start (found c) in
       let few = s .pre .3 in
-      let small = largestSum-small 8388608 (valueAt (s .args .values .now)) (s .args .n) k (λ j h. omega (arith, s .pre .0 .small j)) in
+      let small = largestSum-small valueBound (valueAt (s .args .values .now)) (s .args .n) k (λ j h. omega (arith, s .pre .0 .small j)) in
       fits-of-abs (omega (arith, small))
 
   -- what the code works out
