@@ -32,7 +32,7 @@ module _ {a b : Lent} (n : ℕ) (accepted : Bool) (challenge : List ℕ) (h : n 
   same-z y = rw (same-products, same-words 0 (omega arith))
 
   pub same-bit : (e : ℕ → ℕ) (y : List ℤ)
-      → responseBit e y (product (a .key) n challenge) (a .words) ≡ responseBit e y (product (b .key) n challenge) (b .words)
+      → responseBit e n y (product (a .key) n challenge) (a .words) ≡ responseBit e n y (product (b .key) n challenge) (b .words)
   unfolding responseBit measuresOf
   same-bit e y =
       let sc = product (b .key) n challenge in

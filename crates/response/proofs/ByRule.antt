@@ -64,7 +64,7 @@ plus-or-minus-one first y sc z z′ p q = ext-getD (pos 0) z z′ (p .as-long �
 
 pub bit-by-tests : BitByTests
 unfolding responseBit acceptsBy allPass coshPasses measuresOf
-bit-by-tests e y sc words =
+bit-by-tests e n y sc words =
     let z = responseZ y sc words in
     let a = leb (squareSum sc) 46225 in
     let b = leb (squareSum z) 165688384 in

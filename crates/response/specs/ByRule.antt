@@ -44,8 +44,8 @@ pub record AllTestsPass (e : ℕ → ℕ) (sc z : List ℤ) (second third : ℕ)
 -- the bit is 1 exactly then
 abbrev pub BitByTests : Type 0
 BitByTests =
-    (e : ℕ → ℕ) (y sc : List ℤ) (words : List ℕ)
-    → (responseBit e y sc words ≡ true) ↔ AllTestsPass e sc (responseZ y sc words) (getD words 1 0) (getD words 2 0)
+    (e : ℕ → ℕ) (n : ℕ) (y sc : List ℤ) (words : List ℕ)
+    → (responseBit e n y sc words ≡ true) ↔ AllTestsPass e sc (responseZ y sc words) (getD words 1 0) (getD words 2 0)
 
 -- ** The read list
 

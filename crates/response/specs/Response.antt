@@ -39,8 +39,8 @@ responseZ y sc words = responseOf (subtracts (getD words 0 0)) y sc
 -- ** Its bit
 
 -- what it depends on: A is the sum of squares of Sc, Z that of z, I the sum of products of z and Sc; and the second and the third word
-unfoldable pub measuresOf : (y sc : List ℤ) (words : List ℕ) → Measures
-measuresOf y sc words = let z = responseZ y sc words in
+unfoldable pub measuresOf : (n : ℕ) (y sc : List ℤ) (words : List ℕ) → Measures
+measuresOf n y sc words = let z = responseZ y sc words in
     record { squares = squareSum sc; norm = squareSum z; inner = innerProduct z sc; second = getD words 1 0; third = getD words 2 0 }
 
 -- ** The read list
@@ -54,9 +54,9 @@ respondListLength n count = 2 * n * count + 47
 
 -- ** A whole response
 
--- the bit of a response to these words
-unfoldable pub responseBit : (e : ℕ → ℕ) (y sc : List ℤ) (words : List ℕ) → Bool
-responseBit e y sc words = acceptsBy e (measuresOf y sc words)
+-- the bit of a response of degree n to these words
+unfoldable pub responseBit : (e : ℕ → ℕ) (n : ℕ) (y sc : List ℤ) (words : List ℕ) → Bool
+responseBit e n y sc words = acceptsBy e (measuresOf n y sc words)
 
 -- what a response leaves: its answer, y, z and the list
 pub record Response : Type 0 where

@@ -114,7 +114,7 @@ fn measured(
         × (length (now z) ≡ 2 * degree)
         × (2 * degree * length (now challenge) + 4 ≤ length (now list)) ⌝ }
     ensures { λ r. ⌜ r
-        ≡ measuresOf (now (y .entry)) (product (now (key .entry)) degree (now (challenge .entry))) (now (words .entry)) ⌝ }
+        ≡ measuresOf degree (now (y .entry)) (product (now (key .entry)) degree (now (challenge .entry))) (now (words .entry)) ⌝ }
     ensures { λ _. ⌜ now (z .exit)
         ≡ responseZ (now (y .entry)) (product (now (key .entry)) degree (now (challenge .entry))) (now (words .entry)) ⌝ }
     ensures { λ _. ⌜ now (list .exit)
@@ -157,7 +157,7 @@ pub fn respond(
         × (respondListLength degree (length (now challenge)) ≤ length (now list)) ⌝ }
     ensures { λ r. ⌜ record { answer = r; y = now (y .exit); z = now (z .exit); list = now (list .exit) }
         ≡ respondedBy degree
-        (responseBit (expScaled (now (table .entry)) reciprocal) (now (y .entry))
+        (responseBit (expScaled (now (table .entry)) reciprocal) degree (now (y .entry))
         (product (now (key .entry)) degree (now (challenge .entry))) (now (words .entry)))
         (now (challenge .entry))
         (responseZ (now (y .entry)) (product (now (key .entry)) degree (now (challenge .entry))) (now (words .entry)))

@@ -74,7 +74,7 @@ module _ (s : Session) (r : Respond) (h : respondLeft s r .responded .answer .re
 
   bit-by-rule : (bitOfRespond s r ≡ true) ↔ AllTestsPass exp (product (r .key) (s .degree) (r .challenge)) (zOfRespond s r) (getD (r .words) 1 0) (getD (r .words) 2 0)
   unfolding bitOfRespond zOfRespond
-  bit-by-rule = rw (exp-over (r .polynomial) (respond-passed s r h .is-polynomial)) (bit-by-tests exp (r .y) (product (r .key) (s .degree) (r .challenge)) (r .words))
+  bit-by-rule = rw (exp-over (r .polynomial) (respond-passed s r h .is-polynomial)) (bit-by-tests exp (s .degree) (r .y) (product (r .key) (s .degree) (r .challenge)) (r .words))
 
 pub served-respond-by-rule : ServedRespondByRule
 unfolding respondServed respondedBy

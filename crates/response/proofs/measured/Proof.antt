@@ -83,13 +83,13 @@ inner-small c =
 inner-fits : (c : tie.After-add-product) → SFits w64 (c .add-product .result .inner)
 inner-fits c = fits-of-abs (omega (arith, inner-small c))
 
-measures : (y sc z : List ℤ) (first second third : ℕ) (words : List ℕ) (squares norm : ℕ) (inner : ℤ)
+measures : (n : ℕ) (y sc z : List ℤ) (first second third : ℕ) (words : List ℕ) (squares norm : ℕ) (inner : ℤ)
     → z ≡ sc → first ≡ getD words 0 0 → second ≡ getD words 1 0 → third ≡ getD words 2 0
     → squares ≡ squareSum sc → norm ≡ squareSum (responseOf (subtracts first) y z)
     → inner ≡ innerProduct (responseOf (subtracts first) y z) z
-    → record { squares = squares; norm = norm; inner = inner; second = second; third = third } ≡ measuresOf y sc words
+    → record { squares = squares; norm = norm; inner = inner; second = second; third = third } ≡ measuresOf n y sc words
 unfolding measuresOf responseZ
-measures y sc z first second third words squares norm inner ez e₀ e₁ e₂ es en ei = rw (es, en, ei, ez, e₀, e₁, e₂)
+measures n y sc z first second third words squares norm inner ez e₀ e₁ e₂ es en ei = rw (es, en, ei, ez, e₀, e₁, e₂)
 
 response : (y sc z : List ℤ) (first : ℕ) (words : List ℕ) → z ≡ sc → first ≡ getD words 0 0
     → responseOf (subtracts first) y z ≡ responseZ y sc words
@@ -117,7 +117,7 @@ returns c =
     let words = w .response-words .ensures in
     let made = p .product-listed .ensures in
     let inner = read-back (inner-fits added) ∙ sums .0 .1 in (
-      measures (a .y .now) sc _ _ _ _ (a .words .now) _ _ _ (made .1 .0) (words .0) (words .1) (words .2) (made .0) (sums .0 .0) inner,
+      measures (a .degree) (a .y .now) sc _ _ _ _ (a .words .now) _ _ _ (made .1 .0) (words .0) (words .1) (words .2) (made .0) (sums .0 .0) inner,
       (
         sums .1 ∙ response (a .y .now) sc _ _ (a .words .now) (made .1 .0) (words .0),
         written (a .degree) (a .challenge .now) (a .list .now) _ _ _ (n .note .ensures) (made .1 .1) (words .3),
