@@ -63,7 +63,7 @@ byParts high low = baseSample evenThresholds (high * 2 ^ 62 + low)
 
 -- ** Respond
 
-cosh-one : (word : ℕ) → coshPasses (2 ^ 62) word ≡ true
+pub cosh-one : (word : ℕ) → coshPasses (2 ^ 62) word ≡ true
 unfolding coshPasses
 cosh-one word = lt-ltb (word % 2 ^ 62 * 2 ^ 63) (2 ^ 62 * 2 ^ 63) (mul-lt-mul-of-pos-right (low-small word) (pow-pos 63))
 
