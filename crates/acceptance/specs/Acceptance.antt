@@ -1,4 +1,4 @@
--- The bit of a response of document 01, from what it depends on. Assumes nothing.
+-- The bit of a response of document 01 and request S-2, from what it depends on. Assumes nothing.
 use mathlib.Core.Bool.{Bool, _&&_}
 use mathlib.Core.List.{List, [], _∷_, _++_}
 use Prim.Native.Nat.{ℕ, _+_, _-_, _*_, _/_, _^_, min}
@@ -29,13 +29,15 @@ secondExponent i = min (2 * natAbs i) limit
 unfoldable pub coshPasses : (e word : ℕ) → Bool
 coshPasses e word = ltb (low62Of word * (2 ^ 62 + e * e / 2 ^ 62)) (e * 2 ^ 63)
 
--- the four tests, by e(N1) and e(N2): A and Z are within their limits, and the second and the third word pass
+-- the five tests, by e(N1) and e(N2): A and Z are within their limits, the coefficients of z1 are within theirs, and the second and the
+-- third word pass
 unfoldable pub allPass : (m : Measures) (e₁ e₂ : ℕ) → Bool
 allPass m e₁ e₂ =
     leb (m .squares) squaresLimit
     && (leb (m .norm) normLimit
+    && (m .bounded
     && (ltb (low62Of (m .second)) e₁
-    && coshPasses e₂ (m .third)))
+    && coshPasses e₂ (m .third))))
 
 -- the bit
 unfoldable pub acceptsBy : (e : ℕ → ℕ) (m : Measures) → Bool

@@ -1,4 +1,5 @@
-// The bit of a response of document 01. Nothing branches on a sum or a word; the four tests are joined into one bit.
+// The bit of a response of document 01 and request S-2. Nothing branches on a sum, a test or a word; the five tests are joined into one
+// bit.
 ghost use mathlib.Core.Path.{_≡_};
 ghost use Prim.Native.Nat.{_+_, _*_, _^_, _≤_, _<_};
 ghost use lib.ListN.{length};
@@ -20,11 +21,12 @@ const BIT_AT: usize = SECOND_AT + exponential::POLYNOMIAL_WORDS;
 
 pub const ENTRIES: usize = BIT_AT + 1;
 
-// What the bit of a response depends on: the sums A, Z and I, and two words.
+// What the bit of a response depends on: the sums A, Z and I, whether the coefficients of z1 are within their limit, and two words.
 pub struct Measures {
     pub squares: u64,
     pub norm: u64,
     pub inner: i64,
+    pub bounded: bool,
     pub second: u64,
     pub third: u64,
 }
@@ -40,14 +42,14 @@ fn passes_cosh(e: u64, word: u64) -> bool
     arithmetic::less(left, right) == 1
 }
 
-// The four tests of a response, joined without a branch.
+// The five tests of a response, joined without a branch.
 fn all_pass(m: Measures, e1: u64, e2: u64) -> bool
     requires { ⌜ e2 ≤ 2 ^ 62 ⌝ }
     ensures { λ r. ⌜ r ≡ allPass m e1 e2 ⌝ }
 {
     let second = arithmetic::low62(m.second);
     let cosh = passes_cosh(e2, m.third);
-    (m.squares <= SQUARES_LIMIT) & ((m.norm <= NORM_LIMIT) & ((second < e1) & cosh))
+    (m.squares <= SQUARES_LIMIT) & ((m.norm <= NORM_LIMIT) & (m.bounded & ((second < e1) & cosh)))
 }
 
 // The bit of a response. Both exponentials are always worked out. Their reads and the bit are listed from the index `at` of a list on.

@@ -139,5 +139,7 @@ key-promise n key count e challenge c l =
 pub never-rejected-for-A : NeverRejectedForA
 never-rejected-for-A s r passed h z p =
     let by-rule = served-respond-by-rule s r h .bit z p in
-    let a = a-within (s .degree) (r .key) (r .challenge) passed (respond-passed s r h .positions) in
-    ((λ e. by-rule .0 e .others), (λ others. by-rule .1 (record { squares = a; others = others })))
+    let a = a-within (s .degree) (r .key) (r .challenge) passed (respond-passed s r h .positions) in (
+      (λ e. let t = by-rule .0 e in (t .four .others, t .coefficients)),
+      (λ q. by-rule .1 (record { four = record { squares = a; others = q .0 }; coefficients = q .1 })),
+    )

@@ -10,7 +10,7 @@ use Rattle.signed.specs.Vectors.{squareSum}
 use Rattle.exponential.specs.Exponential.{exp}
 use Rattle.challenge.specs.Challenge.{isChallenge}
 use Rattle.challenge_product.specs.Product.{product}
-use Rattle.response.specs.ByRule.{PlusOrMinus, OtherTestsPass}
+use Rattle.response.specs.ByRule.{PlusOrMinus, OtherTestsPass, CoefficientsPass}
 use Rattle.session.specs.declared.Session.{Session}
 use Rattle.session.specs.Calls.{Respond, respondLeft}
 use Rattle.key_check.specs.KeyCheck.{finalSum, keyAnswer}
@@ -33,4 +33,5 @@ NeverRejectedForA =
     keyAnswer (s .degree) (r .key) (length (r .challenge)) .refusal ≡ 0 →
     left .responded .answer .refusal ≡ 0 →
     (z : List ℤ) → PlusOrMinus (getD (r .words) 0 0) (r .y) sc z →
-    (left .responded .answer .bit ≡ true) ↔ OtherTestsPass exp sc z (getD (r .words) 1 0) (getD (r .words) 2 0)
+    (left .responded .answer .bit ≡ true)
+    ↔ (OtherTestsPass exp sc z (getD (r .words) 1 0) (getD (r .words) 2 0) × CoefficientsPass (s .degree) z)

@@ -14,7 +14,7 @@ use Rattle.sampler.specs.Draw.{bitsFrom, drawBits, accepted, samplesFrom, drawY
 use Rattle.challenge.specs.Challenge.{positionsBelow, ascends, arePositions, isChallenge}
 use Rattle.challenge_product.specs.Product.{termAt, outputAt, outputsFrom, product, outputEntries, outputEntriesFrom, productEntries}
 use Rattle.acceptance.specs.Acceptance.{coshPasses, allPass, acceptsBy, acceptanceEntries}
-use Rattle.response.specs.Response.{responseOf, responseZ, measuresOf, responseBit, respondEntries, respondedBy}
+use Rattle.response.specs.Response.{responseOf, responseZ, isBounded, measuresOf, responseBit, respondEntries, respondedBy}
 use Rattle.refusals.specs.Refusals.{openRefusal, drawRefusal, noiseRefusal, respondRefusal}
 use Rattle.session.specs.Calls.{opened, refusalOfDraw, bitsOfDraw, drawRefused, drawServed, drawLeft}
 use Rattle.session.specs.Calls.{refusalOfRespond, bitOfRespond, zOfRespond, respondRefused, respondServed, respondLeft}
@@ -47,7 +47,8 @@ sums = tt
 
 -- the challenge product, responses and their bits
 unfoldable pub responses : Unit {0}
-unfolding sums product outputsFrom outputAt termAt responseZ responseOf responseBit measuresOf acceptsBy allPass coshPasses
+unfolding sums product outputsFrom outputAt termAt responseZ responseOf responseBit measuresOf isBounded allWithin acceptsBy allPass
+    coshPasses
 responses = tt
 
 -- the key check

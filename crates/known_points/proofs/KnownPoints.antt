@@ -63,7 +63,7 @@ byParts high low = baseSample evenThresholds (high * 2 ^ 62 + low)
 
 -- ** Respond
 
-cosh-one : (word : ℕ) → coshPasses (2 ^ 62) word ≡ true
+pub cosh-one : (word : ℕ) → coshPasses (2 ^ 62) word ≡ true
 unfolding coshPasses
 cosh-one word = lt-ltb (word % 2 ^ 62 * 2 ^ 63) (2 ^ 62 * 2 ^ 63) (mul-lt-mul-of-pos-right (low-small word) (pow-pos 63))
 
@@ -76,15 +76,15 @@ unfolding coshPasses
 cosh-cut e₂ top low = rw (top-cut top low)
 
 -- where A is too large no other test counts
-a-too-large : (by : ℕ → ℕ) (y sc : List ℤ) (words : List ℕ) → 46225 < squareSum sc → responseBit by y sc words ≡ false
+a-too-large : (by : ℕ → ℕ) (n : ℕ) (y sc : List ℤ) (words : List ℕ) → 46225 < squareSum sc → responseBit by n y sc words ≡ false
 unfolding responseBit acceptsBy allPass measuresOf
-a-too-large by y sc words h = rw (lt-leb (squareSum sc) 46225 h)
+a-too-large by n y sc words h = rw (lt-leb (squareSum sc) 46225 h)
 
 -- nor where Z is
-z-too-large : (by : ℕ → ℕ) (y sc : List ℤ) (words : List ℕ) → 165688384 < squareSum (responseZ y sc words)
-    → responseBit by y sc words ≡ false
+z-too-large : (by : ℕ → ℕ) (n : ℕ) (y sc : List ℤ) (words : List ℕ) → 165688384 < squareSum (responseZ y sc words)
+    → responseBit by n y sc words ≡ false
 unfolding responseBit acceptsBy allPass measuresOf
-z-too-large by y sc words h = rw (lt-leb (squareSum (responseZ y sc words)) 165688384 h, and-false (leb (squareSum sc) 46225))
+z-too-large by n y sc words h = rw (lt-leb (squareSum (responseZ y sc words)) 165688384 h, and-false (leb (squareSum sc) 46225))
 
 -- ** The points
 

@@ -3,6 +3,7 @@ pub mod KnownPoints
 pub mod ExponentialNumbers
 pub mod SampleNumbers
 pub mod RespondNumbers
+pub mod CoefficientNumbers
 pub mod OpeningRefusals
 pub mod DrawRefusals
 pub mod DefaultCdt

@@ -53,7 +53,7 @@ withZeros value = value ∷ replicate 7 (pos 0)
 
 -- the bit of a response over such a y and Sc
 abbrev pub bitOver : (y sc : ℤ) (words : List ℕ) → Bool
-bitOver y sc words = responseBit e (withZeros y) (withZeros sc) words
+bitOver y sc words = responseBit e 4 (withZeros y) (withZeros sc) words
 
 -- ** The points
 
@@ -162,12 +162,12 @@ pub record KnownPoints : Type 0 where
   -- A = 46,225 may pass: N1 is 0, and every word 1 passes; z = 0, so that I is 0, and every word 2 passes
   pub largest-a : (word₁ word₂ : ℕ) → bitOver (negsuc 214) (pos 215) (three 0 word₁ word₂) ≡ true
   -- a larger one never
-  pub larger-a : (y sc : List ℤ) (words : List ℕ) → 46225 < squareSum sc → responseBit e y sc words ≡ false
+  pub larger-a : (n : ℕ) (y sc : List ℤ) (words : List ℕ) → 46225 < squareSum sc → responseBit e n y sc words ≡ false
   -- Z = 165,688,384 may pass: it is 64 * 1,609 ^ 2
-  pub largest-z : (word₂ : ℕ) → responseBit e (replicate 64 (pos 1609)) (replicate 64 (pos 0)) (three 0 0 word₂) ≡ true
+  pub largest-z : (word₂ : ℕ) → responseBit e 32 (replicate 64 (pos 1609)) (replicate 64 (pos 0)) (three 0 0 word₂) ≡ true
   -- a larger one never
-  pub larger-z : (y sc : List ℤ) (words : List ℕ) → 165688384 < squareSum (responseZ y sc words)
-      → responseBit e y sc words ≡ false
+  pub larger-z : (n : ℕ) (y sc : List ℤ) (words : List ℕ) → 165688384 < squareSum (responseZ y sc words)
+      → responseBit e n y sc words ≡ false
   -- word 1 = e(N1) - 1 passes and e(N1) does not, whatever its top two bits are: A = 0, N1 = 46,225; I = 0
   pub word-1-below : (top word₂ : ℕ) → bitOver (pos 5) (pos 0) (three 0 (top * 2 ^ 62 + 2797128963144291333) word₂) ≡ true
   pub word-1-at : (top word₂ : ℕ) → bitOver (pos 5) (pos 0) (three 0 (top * 2 ^ 62 + 2797128963144291334) word₂) ≡ false

@@ -13,7 +13,7 @@ use Rattle.signed.specs.Vectors.{squareSum, innerProduct}
 use Rattle.challenge_product.specs.Product.{product, productEntries}
 use Rattle.challenge_product.proofs.Agreement.{same-product}
 use Rattle.acceptance.specs.Acceptance.{acceptsBy}
-use Rattle.response.specs.Response.{respondEntries, responseZ, measuresOf, responseBit}
+use Rattle.response.specs.Response.{respondEntries, responseZ, isBounded, measuresOf, responseBit}
 
 module _ {a b : Lent} (n : ℕ) (accepted : Bool) (challenge : List ℕ) (h : n ≤ 1024) (same : Agree a b (respondEntries n accepted challenge)) where
   same-products : product (a .key) n challenge ≡ product (b .key) n challenge
@@ -32,10 +32,10 @@ module _ {a b : Lent} (n : ℕ) (accepted : Bool) (challenge : List ℕ) (h : n 
   same-z y = rw (same-products, same-words 0 (omega arith))
 
   pub same-bit : (e : ℕ → ℕ) (y : List ℤ)
-      → responseBit e y (product (a .key) n challenge) (a .words) ≡ responseBit e y (product (b .key) n challenge) (b .words)
+      → responseBit e n y (product (a .key) n challenge) (a .words) ≡ responseBit e n y (product (b .key) n challenge) (b .words)
   unfolding responseBit measuresOf
   same-bit e y =
       let sc = product (b .key) n challenge in
       let z = responseZ y sc (b .words) in
       rw (same-z y, same-products)
-      (ap₂ (λ (v w : ℕ). acceptsBy e (record { squares = squareSum sc; norm = squareSum z; inner = innerProduct z sc; second = v; third = w })) (same-words 1 (omega arith)) (same-words 2 (omega arith)))
+      (ap₂ (λ (v w : ℕ). acceptsBy e (record { squares = squareSum sc; norm = squareSum z; inner = innerProduct z sc; bounded = isBounded n z; second = v; third = w })) (same-words 1 (omega arith)) (same-words 2 (omega arith)))

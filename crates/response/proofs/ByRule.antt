@@ -14,12 +14,13 @@ use borrow.Author.Tests.{leb-true, le-leb, ltb-true, lt-ltb, eq-eqb, ne-eqb, eqb
 use Rattle.arithmetic.specs.Words.{low62Of}
 use Rattle.read_list.specs.Entries.{placesUp}
 use Rattle.signed.specs.Vectors.{squareSum, innerProduct}
+use Rattle.signed.proofs.Vectors.{first-within}
 use Rattle.challenge_product.specs.Product.{productEntries}
 use Rattle.challenge_product.specs.InOrder.{HalvesListed}
 use Rattle.challenge_product.proofs.ProductSizes.{length-productEntries}
 use Rattle.challenge_product.proofs.InOrder.{product-listed}
 use Rattle.acceptance.specs.Acceptance.{firstExponent, secondExponent, coshPasses, allPass, acceptsBy, acceptanceEntries}
-use Rattle.response.specs.Response.{responseOf, responseZ, measuresOf, responseBit, respondEntries}
+use Rattle.response.specs.Response.{responseOf, responseZ, isBounded, measuresOf, responseBit, respondEntries}
 use Rattle.response.specs.ByRule.{PlusOrMinus, ResponsePlusOrMinus, BitByTests, RespondLists}
 use Rattle.response.proofs.RespondTells.{length-respondEntries}
 
@@ -63,27 +64,38 @@ plus-or-minus-one first y sc z z′ p q = ext-getD (pos 0) z z′ (p .as-long �
 -- ** The bit
 
 pub bit-by-tests : BitByTests
-unfolding responseBit acceptsBy allPass coshPasses measuresOf
-bit-by-tests e y sc words =
+unfolding responseBit acceptsBy allPass coshPasses measuresOf isBounded
+bit-by-tests e n y sc words =
     let z = responseZ y sc words in
     let a = leb (squareSum sc) 46225 in
     let b = leb (squareSum z) 165688384 in
     let first = ltb (low62Of (getD words 1 0)) (e (firstExponent (squareSum sc))) in
     let e₂ = e (secondExponent (innerProduct z sc)) in
     let cosh = ltb (low62Of (getD words 2 0) * (2 ^ 62 + e₂ * e₂ / 2 ^ 62)) (e₂ * 2 ^ 63) in
-    let ab = and-eq-true-iff a (b && (first && cosh)) in
-    let bc = and-eq-true-iff b (first && cosh) in
-    let cd = and-eq-true-iff first cosh in (
-      λ h. let p = ab .0 h in let q = bc .0 (p .1) in let r = cd .0 (q .1) in record {
-        squares = leb-true _ _ (p .0);
-        others = record {
-          norm = leb-true _ _ (q .0);
-          first-exponential = ltb-true _ _ (r .0);
-          second-exponential = ltb-true _ _ (r .1);
+    let bounded = isBounded n z in
+    let at-a = and-eq-true-iff a (b && (bounded && (first && cosh))) in
+    let at-b = and-eq-true-iff b (bounded && (first && cosh)) in
+    let at-bounded = and-eq-true-iff bounded (first && cosh) in
+    let at-words = and-eq-true-iff first cosh in (
+      λ h. let p = at-a .0 h in let q = at-b .0 (p .1) in let r = at-bounded .0 (q .1) in let w = at-words .0 (r .1) in record {
+        four = record {
+          squares = leb-true _ _ (p .0);
+          others = record {
+            norm = leb-true _ _ (q .0);
+            first-exponential = ltb-true _ _ (w .0);
+            second-exponential = ltb-true _ _ (w .1);
+          };
         };
+        coefficients = first-within 2100 n z .0 (r .0);
       },
-      λ t. let o = t .others in
-          ab .1 (le-leb _ _ (t .squares), bc .1 (le-leb _ _ (o .norm), cd .1 (lt-ltb _ _ (o .first-exponential), lt-ltb _ _ (o .second-exponential)))),
+      λ t. let o = t .four .others in
+          at-a .1 (
+            le-leb _ _ (t .four .squares),
+            at-b .1 (
+              le-leb _ _ (o .norm),
+              at-bounded .1 (first-within 2100 n z .1 (t .coefficients), at-words .1 (lt-ltb _ _ (o .first-exponential), lt-ltb _ _ (o .second-exponential))),
+            ),
+          ),
     )
 
 -- ** The read list

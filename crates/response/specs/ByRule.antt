@@ -1,4 +1,4 @@
--- A response by the words of document 01: z value by value, the tests of its bit, and where its reads are listed. Assumes nothing.
+-- A response by the words of document 01 and request S-2: z value by value, the tests of its bit, and where its reads are listed. Assumes nothing.
 use mathlib.Core.Path.{_≡_}
 use mathlib.Core.Bool.{Bool, true}
 use mathlib.Core.List.{List, [], _∷_, _++_}
@@ -30,22 +30,31 @@ ResponsePlusOrMinus =
 abbrev pub CoshPasses : (e third : ℕ) → Type 0
 CoshPasses e third = third % 2 ^ 62 * (2 ^ 62 + e * e / 2 ^ 62) < e * 2 ^ 63
 
--- what must hold of Sc, z and the second and third word for bit 1, beside that of A alone
+-- document 01's tests of Sc, z and the second and third word, beside that of A
 pub record OtherTestsPass (e : ℕ → ℕ) (sc z : List ℤ) (second third : ℕ) : Type 0 where
   pub norm : squareSum z ≤ 165688384
   pub first-exponential : second % 2 ^ 62 < e (46225 - squareSum sc)
   pub second-exponential : CoshPasses (e (min (2 * natAbs (innerProduct z sc)) 5534960)) third
 
--- and all of it
-pub record AllTestsPass (e : ℕ → ℕ) (sc z : List ℤ) (second third : ℕ) : Type 0 where
+-- the four of document 01
+pub record FourTestsPass (e : ℕ → ℕ) (sc z : List ℤ) (second third : ℕ) : Type 0 where
   pub squares : squareSum sc ≤ 46225
   pub others : OtherTestsPass e sc z second third
+
+-- S-2's test: each coefficient of z1, the first n values of z, is from -2,100 to 2,100
+abbrev pub CoefficientsPass : (n : ℕ) (z : List ℤ) → Type 0
+CoefficientsPass n z = (i : ℕ) → i < n → natAbs (getD z i (pos 0)) ≤ 2100
+
+-- all that must hold for bit 1
+pub record AllTestsPass (e : ℕ → ℕ) (n : ℕ) (sc z : List ℤ) (second third : ℕ) : Type 0 where
+  pub four : FourTestsPass e sc z second third
+  pub coefficients : CoefficientsPass n z
 
 -- the bit is 1 exactly then
 abbrev pub BitByTests : Type 0
 BitByTests =
-    (e : ℕ → ℕ) (y sc : List ℤ) (words : List ℕ)
-    → (responseBit e y sc words ≡ true) ↔ AllTestsPass e sc (responseZ y sc words) (getD words 1 0) (getD words 2 0)
+    (e : ℕ → ℕ) (n : ℕ) (y sc : List ℤ) (words : List ℕ)
+    → (responseBit e n y sc words ≡ true) ↔ AllTestsPass e n sc (responseZ y sc words) (getD words 1 0) (getD words 2 0)
 
 -- ** The read list
 

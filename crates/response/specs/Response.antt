@@ -3,11 +3,11 @@ use mathlib.Core.Bool.{Bool, cond}
 use mathlib.Core.List.{List, [], _∷_, _++_}
 use Prim.Native.Nat.{ℕ, _+_, _*_, _%_}
 use lib.Dec.{eqb}
-use lib.ListN.{length, getD, replicate}
+use lib.ListN.{length, getD, take, replicate}
 use lib.Seq.{sets}
 use lib.IntN.{ℤ, pos, negℤ, _+ℤ_}
 use Rattle.read_list.specs.Entries.{entry, placesUp}
-use Rattle.signed.specs.Vectors.{squareSum, innerProduct}
+use Rattle.signed.specs.Vectors.{allWithin, squareSum, innerProduct}
 use Rattle.challenge_product.specs.Product.{outputBound, productEntries}
 use Rattle.response.specs.declared.Answer.{Answer}
 use Rattle.acceptance.specs.declared.Measures.{Measures}
@@ -38,10 +38,26 @@ responseZ y sc words = responseOf (subtracts (getD words 0 0)) y sc
 
 -- ** Its bit
 
--- what it depends on: A is the sum of squares of Sc, Z that of z, I the sum of products of z and Sc; and the second and the third word
-unfoldable pub measuresOf : (y sc : List ℤ) (words : List ℕ) → Measures
-measuresOf y sc words = let z = responseZ y sc words in
-    record { squares = squareSum sc; norm = squareSum z; inner = innerProduct z sc; second = getD words 1 0; third = getD words 2 0 }
+-- the largest size of a coefficient that a verifier takes: BLISS-I's B-infinity
+abbrev pub coefficientLimit : ℕ
+coefficientLimit = 2100
+
+-- whether each value of z1, the first n values of z, is from -2,100 to 2,100
+unfoldable pub isBounded : (n : ℕ) (z : List ℤ) → Bool
+isBounded n z = allWithin coefficientLimit (take n z)
+
+-- what it depends on: A is the sum of squares of Sc, Z that of z, I the sum of products of z and Sc; whether z1 is within its limit; and
+-- the second and the third word
+unfoldable pub measuresOf : (n : ℕ) (y sc : List ℤ) (words : List ℕ) → Measures
+measuresOf n y sc words = let z = responseZ y sc words in
+    record {
+      squares = squareSum sc;
+      norm = squareSum z;
+      inner = innerProduct z sc;
+      bounded = isBounded n z;
+      second = getD words 1 0;
+      third = getD words 2 0;
+    }
 
 -- ** The read list
 
@@ -54,9 +70,9 @@ respondListLength n count = 2 * n * count + 47
 
 -- ** A whole response
 
--- the bit of a response to these words
-unfoldable pub responseBit : (e : ℕ → ℕ) (y sc : List ℤ) (words : List ℕ) → Bool
-responseBit e y sc words = acceptsBy e (measuresOf y sc words)
+-- the bit of a response of degree n to these words
+unfoldable pub responseBit : (e : ℕ → ℕ) (n : ℕ) (y sc : List ℤ) (words : List ℕ) → Bool
+responseBit e n y sc words = acceptsBy e (measuresOf n y sc words)
 
 -- what a response leaves: its answer, y, z and the list
 pub record Response : Type 0 where

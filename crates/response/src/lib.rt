@@ -11,12 +11,15 @@ ghost use Rattle.read_list.specs.Entries.{entry, placesUp};
 ghost use Rattle.signed.specs.Vectors.{allWithin, squareSum, innerProduct};
 ghost use Rattle.exponential.specs.Exponential.{polynomial, expScaled, limit};
 ghost use Rattle.challenge_product.specs.Product.{outputBound, product, Factors, productEntries};
-ghost use Rattle.response.specs.Response.{noiseBound, responseBound, subtracts, responseOf, measuresOf, responseZ, responseBit};
-ghost use Rattle.response.specs.Response.{respondListLength, respondedBy};
+ghost use Rattle.response.specs.Response.{noiseBound, responseBound, subtracts, responseOf, responseZ};
+ghost use Rattle.response.specs.Response.{isBounded, measuresOf, responseBit, respondListLength, respondedBy};
 use acceptance::Measures;
 
 // The largest size of a value of y.
 pub const NOISE_BOUND: u32 = 2815;
+
+// The largest size of a coefficient of z1 in a response that is accepted.
+const COEFFICIENT_LIMIT: u32 = 2100;
 
 // The words of a response.
 pub const WORDS: usize = 3;
@@ -96,6 +99,14 @@ fn add_product(word: u64, y: &[i32], z: &mut [i32]) -> Sums
     Sums { norm, inner }
 }
 
+// Whether each coefficient of z1, the first half of z, is within its limit. Every one is looked at, whatever the others are.
+fn is_bounded(degree: usize, z: &[i32]) -> bool
+    requires { ⌜ degree ≤ length (now z) ⌝ }
+    ensures { λ r. ⌜ r ≡ isBounded degree (now (z .entry)) ⌝ }
+{
+    signed::all_within(&z[..degree], COEFFICIENT_LIMIT)
+}
+
 // The challenge product, three words and the response, in the order of the list: z becomes the response, and entries are listed from the
 // start of the list on.
 fn measured(
@@ -114,7 +125,7 @@ fn measured(
         × (length (now z) ≡ 2 * degree)
         × (2 * degree * length (now challenge) + 4 ≤ length (now list)) ⌝ }
     ensures { λ r. ⌜ r
-        ≡ measuresOf (now (y .entry)) (product (now (key .entry)) degree (now (challenge .entry))) (now (words .entry)) ⌝ }
+        ≡ measuresOf degree (now (y .entry)) (product (now (key .entry)) degree (now (challenge .entry))) (now (words .entry)) ⌝ }
     ensures { λ _. ⌜ now (z .exit)
         ≡ responseZ (now (y .entry)) (product (now (key .entry)) degree (now (challenge .entry))) (now (words .entry)) ⌝ }
     ensures { λ _. ⌜ now (list .exit)
@@ -125,10 +136,12 @@ fn measured(
     let at = KEY_AT + 2 * degree * challenge.len();
     let w = response_words(words, list, at);
     let sums = add_product(w.first, y, z);
+    let bounded = is_bounded(degree, z);
     Measures {
         squares,
         norm: sums.norm,
         inner: sums.inner,
+        bounded,
         second: w.second,
         third: w.third,
     }
@@ -157,7 +170,7 @@ pub fn respond(
         × (respondListLength degree (length (now challenge)) ≤ length (now list)) ⌝ }
     ensures { λ r. ⌜ record { answer = r; y = now (y .exit); z = now (z .exit); list = now (list .exit) }
         ≡ respondedBy degree
-        (responseBit (expScaled (now (table .entry)) reciprocal) (now (y .entry))
+        (responseBit (expScaled (now (table .entry)) reciprocal) degree (now (y .entry))
         (product (now (key .entry)) degree (now (challenge .entry))) (now (words .entry)))
         (now (challenge .entry))
         (responseZ (now (y .entry)) (product (now (key .entry)) degree (now (challenge .entry))) (now (words .entry)))

@@ -1,4 +1,4 @@
--- Each call by the words of document 01. Assumes nothing.
+-- Each call by the words of document 01 and request S-2. Assumes nothing.
 use mathlib.Core.Path.{_≡_, refl, sym, _∙_}
 use mathlib.Core.Bool.{true}
 use mathlib.Core.List.{List}
@@ -72,9 +72,9 @@ module _ (s : Session) (r : Respond) (h : respondLeft s r .responded .answer .re
   unfolding zOfRespond
   z-by-rule = response-plus-or-minus (r .y) (product (r .key) (s .degree) (r .challenge)) (r .words) sc-as-long
 
-  bit-by-rule : (bitOfRespond s r ≡ true) ↔ AllTestsPass exp (product (r .key) (s .degree) (r .challenge)) (zOfRespond s r) (getD (r .words) 1 0) (getD (r .words) 2 0)
+  bit-by-rule : (bitOfRespond s r ≡ true) ↔ AllTestsPass exp (s .degree) (product (r .key) (s .degree) (r .challenge)) (zOfRespond s r) (getD (r .words) 1 0) (getD (r .words) 2 0)
   unfolding bitOfRespond zOfRespond
-  bit-by-rule = rw (exp-over (r .polynomial) (respond-passed s r h .is-polynomial)) (bit-by-tests exp (r .y) (product (r .key) (s .degree) (r .challenge)) (r .words))
+  bit-by-rule = rw (exp-over (r .polynomial) (respond-passed s r h .is-polynomial)) (bit-by-tests exp (s .degree) (r .y) (product (r .key) (s .degree) (r .challenge)) (r .words))
 
 pub served-respond-by-rule : ServedRespondByRule
 unfolding respondServed respondedBy

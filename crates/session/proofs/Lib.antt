@@ -1,3 +1,4 @@
 pub mod Calls
 pub mod CallLaws
 pub mod ByRule
+pub mod Coefficients

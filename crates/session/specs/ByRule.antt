@@ -1,4 +1,4 @@
--- Each call by the words of document 01, said of what the caller sees and not by the definitions of Calls. Assumes nothing.
+-- Each call by the words of document 01 and request S-2, said of what the caller sees and not by the definitions of Calls. Assumes nothing.
 use mathlib.Core.Path.{_≡_}
 use mathlib.Core.Bool.{Bool, true}
 use mathlib.Core.List.{List}
@@ -57,7 +57,7 @@ ServedDrawByRule =
 -- has its entries, the bit last
 pub record RespondMade (s : Session) (r : Respond) (left : RespondLeft) (sc : List ℤ) : Type 0 where
   pub bit : (z : List ℤ) → PlusOrMinus (getD (r .words) 0 0) (r .y) sc z
-      → (left .responded .answer .bit ≡ true) ↔ AllTestsPass exp sc z (getD (r .words) 1 0) (getD (r .words) 2 0)
+      → (left .responded .answer .bit ≡ true) ↔ AllTestsPass exp (s .degree) sc z (getD (r .words) 1 0) (getD (r .words) 2 0)
   pub z : left .responded .answer .bit ≡ true → PlusOrMinus (getD (r .words) 0 0) (r .y) sc (left .z)
   pub listed : ResponseListed (s .degree) (r .challenge) (left .responded .answer .bit)
       (take (left .responded .answer .entries) (left .list))

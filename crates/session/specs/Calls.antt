@@ -125,7 +125,7 @@ refusalOfRespond s r =
 
 -- its bit, by e(N) over the lent polynomial table, at deviation 215
 unfoldable pub bitOfRespond : (s : Session) (r : Respond) → Bool
-bitOfRespond s r = responseBit (expWith (r .polynomial) divisor) (r .y) (product (r .key) (s .degree) (r .challenge)) (r .words)
+bitOfRespond s r = responseBit (expWith (r .polynomial) divisor) (s .degree) (r .y) (product (r .key) (s .degree) (r .challenge)) (r .words)
 
 -- z where its bit is 1
 unfoldable pub zOfRespond : (s : Session) (r : Respond) → List ℤ

@@ -12,7 +12,9 @@ passes-cosh-requires c κs = search needs
 
 returns : tie.Need-returns
 unfolding allPass
-returns c = rw (c .before .before .passes-cosh .ensures, c .before .before .before .low62 .ensures)
+returns c =
+    let cosh = c .before .before .before in
+    rw (cosh .passes-cosh .ensures, cosh .before .low62 .ensures)
 
 pub all-pass-spec : {M : Type 1} → statement M
 all-pass-spec = tie.close (tie.spec low62-requires passes-cosh-requires returns)

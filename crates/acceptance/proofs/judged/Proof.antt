@@ -1,4 +1,4 @@
--- `acceptance::judged` meets its contract: the four tests are those of the definition. Assumes nothing.
+-- `acceptance::judged` meets its contract: the tests are those of the definition. Assumes nothing.
 use borrow.Author.Needs.{needs}
 use mathlib.Core.Path.{_≡_, ap, ap₂, _∙_}
 use Prim.Native.Nat.{ℕ, _-_, _*_, min}

@@ -1,6 +1,7 @@
 -- `response::measured` meets its contract. Assumes nothing.
 use borrow.Author.Needs.{needs}
 use mathlib.Core.Path.{_≡_, refl, sym, ap, _∙_}
+use mathlib.Core.Bool.{Bool}
 use mathlib.Core.List.{List, [], _∷_, _++_}
 use Prim.Native.Nat.{ℕ, _+_, _*_, _≤_}
 use native.Mathlib.Nat.{le-trans, mul-le-mul-left}
@@ -16,7 +17,7 @@ use Rattle.read_list.specs.Entries.{entry, placesUp}
 use Rattle.read_list.proofs.Written.{written-behind}
 use Rattle.challenge_product.specs.Product.{outputBound, product, productEntries}
 use Rattle.challenge_product.proofs.ProductSizes.{length-product, length-productEntries, product-within}
-use Rattle.response.specs.Response.{subtracts, responseOf, responseZ, measuresOf}
+use Rattle.response.specs.Response.{subtracts, responseOf, responseZ, isBounded, measuresOf}
 use Rattle.response.proofs.Passes.{inner-bound}
 use Rattle.response.proofs.measured.Statement.{statement}
 use Rattle.response.proofs.measured.Tie as tie
@@ -34,6 +35,9 @@ product-made c = c .before .before .before .before .before
 
 abbrev words-read : tie.After-add-product → tie.After-response-words
 words-read c = c .before .before .before .before
+
+abbrev response-made : tie.After-is-bounded → tie.After-add-product
+response-made c = c .before .before .before
 
 -- ** What the code asks for
 
@@ -68,6 +72,9 @@ add-product-requires c κs =
       ap (allWithin outputBound) made ∙ product-within (a .key .now) (a .degree) (s .pre .0 .small) (a .challenge .now) (s .pre .0 .few),
     )
 
+is-bounded-requires : tie.Need-is-bounded-requires
+is-bounded-requires c κs = search needs
+
 same-length : tie.Need-same-length
 same-length c = search needs
 
@@ -83,13 +90,13 @@ inner-small c =
 inner-fits : (c : tie.After-add-product) → SFits w64 (c .add-product .result .inner)
 inner-fits c = fits-of-abs (omega (arith, inner-small c))
 
-measures : (y sc z : List ℤ) (first second third : ℕ) (words : List ℕ) (squares norm : ℕ) (inner : ℤ)
+measures : (n : ℕ) (y sc z : List ℤ) (first second third : ℕ) (words : List ℕ) (squares norm : ℕ) (inner : ℤ) (bounded : Bool)
     → z ≡ sc → first ≡ getD words 0 0 → second ≡ getD words 1 0 → third ≡ getD words 2 0
     → squares ≡ squareSum sc → norm ≡ squareSum (responseOf (subtracts first) y z)
-    → inner ≡ innerProduct (responseOf (subtracts first) y z) z
-    → record { squares = squares; norm = norm; inner = inner; second = second; third = third } ≡ measuresOf y sc words
+    → inner ≡ innerProduct (responseOf (subtracts first) y z) z → bounded ≡ isBounded n (responseOf (subtracts first) y z)
+    → record { squares = squares; norm = norm; inner = inner; bounded = bounded; second = second; third = third } ≡ measuresOf n y sc words
 unfolding measuresOf responseZ
-measures y sc z first second third words squares norm inner ez e₀ e₁ e₂ es en ei = rw (es, en, ei, ez, e₀, e₁, e₂)
+measures n y sc z first second third words squares norm inner bounded ez e₀ e₁ e₂ es en ei eb = rw (es, en, ei, eb, ez, e₀, e₁, e₂)
 
 response : (y sc z : List ℤ) (first : ℕ) (words : List ℕ) → z ≡ sc → first ≡ getD words 0 0
     → responseOf (subtracts first) y z ≡ responseZ y sc words
@@ -107,7 +114,8 @@ written n challenge l l₁ l₂ l₃ e₁ e₂ e₃ =
 
 returns : tie.Need-returns
 returns c =
-    let added = c .before .before in
+    let tested = c .before in
+    let added = response-made tested in
     let w = words-read added in
     let p = product-made w in
     let n = noted p in
@@ -117,7 +125,7 @@ returns c =
     let words = w .response-words .ensures in
     let made = p .product-listed .ensures in
     let inner = read-back (inner-fits added) ∙ sums .0 .1 in (
-      measures (a .y .now) sc _ _ _ _ (a .words .now) _ _ _ (made .1 .0) (words .0) (words .1) (words .2) (made .0) (sums .0 .0) inner,
+      measures (a .degree) (a .y .now) sc _ _ _ _ (a .words .now) _ _ _ _ (made .1 .0) (words .0) (words .1) (words .2) (made .0) (sums .0 .0) inner (tested .is-bounded .ensures ∙ ap (isBounded (a .degree)) (sums .1)),
       (
         sums .1 ∙ response (a .y .now) sc _ _ (a .words .now) (made .1 .0) (words .0),
         written (a .degree) (a .challenge .now) (a .list .now) _ _ _ (n .note .ensures) (made .1 .1) (words .3),
@@ -127,5 +135,5 @@ returns c =
 pub measured-spec : {M : Type 1} → statement M
 measured-spec =
     tie.close
-    (tie.spec note-requires product-listed-requires mul-at mul-at-2 add-at response-words-requires add-product-requires same-length
-    same-length-2 returns)
+    (tie.spec note-requires product-listed-requires mul-at mul-at-2 add-at response-words-requires add-product-requires
+    is-bounded-requires same-length same-length-2 returns)

@@ -54,7 +54,7 @@ add-at-2 : tie.Need-add-at-2
 add-at-2 c = search needs
 
 inner-small : (s : tie.Start) → let a = s .args in
-    natAbs (measuresOf (a .y .now) (product (a .key .now) (a .degree) (a .challenge .now)) (a .words .now) .inner) ≤ 1461824 * 2048
+    natAbs (measuresOf (a .degree) (a .y .now) (product (a .key .now) (a .degree) (a .challenge .now)) (a .words .now) .inner) ≤ 1461824 * 2048
 unfolding measuresOf responseZ
 inner-small s =
     let a = s .args in

@@ -93,7 +93,7 @@ responded-served-requires c κs = search needs
 response-leaves : (s : Session) (r : Respond) (response : Response) (responded : Responded) → refusalOfRespond s r ≡ 0
     → responded ≡ respondedServed s (response .answer)
     → response ≡ respondedBy (s .degree)
-    (responseBit (expScaled (r .polynomial) 3269134179596076729) (r .y) (product (r .key) (s .degree) (r .challenge)) (r .words))
+    (responseBit (expScaled (r .polynomial) 3269134179596076729) (s .degree) (r .y) (product (r .key) (s .degree) (r .challenge)) (r .words))
     (r .challenge) (zOfRespond s r) (r .list)
     → afterRespond responded (response .y) (response .z) (response .list) ≡ respondLeft s r
 unfolding respondLeft respondServed bitOfRespond
