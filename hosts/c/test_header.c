@@ -31,8 +31,8 @@ static const uint64_t polynomial[BLISS_POLYNOMIAL_WORDS] = BLISS_POLYNOMIAL;
 static const uint64_t cdt[BLISS_CDT_WORDS] = BLISS_CDT_215;
 static const uint32_t challenge[POSITIONS] = {0, 3};
 
-/* An attempt with words of 0 is accepted, and its sample is 0; the first has a b of 1. A response with a key of 0 is its noise, and
- * with words of 0 it is accepted if the values of its first half are in range. */
+/* An attempt with words of 0 is accepted, and its sample is 0; the first has a b of 1. A response with a key of 0 is its noise,
+ * and with words of 0 it is accepted if the values of its first half are in range. */
 static const uint64_t draw_words[BLISS_DRAW_WORDS(LIMIT)] = {0, 0, 1, 0};
 static const uint64_t respond_words[BLISS_RESPOND_WORDS] = {0, 0, 0};
 static const int32_t key[BLISS_SAMPLES(DEGREE)] = {0};

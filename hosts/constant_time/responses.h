@@ -47,8 +47,8 @@ struct causes {
     uint64_t by[TESTS];
 };
 
-/* None where it is accepted; else one test, alone or with some of the others. Of four seeds in a row one has z1 alone: so traces of
- * that cause are compared with those of others. */
+/* None where it is accepted; else one test, alone or with some of the others. Of four seeds in a row one has z1 alone: so traces
+ * of that cause are compared with those of others. */
 static inline struct causes secret_causes(struct response r)
 {
     /* Of a refused response the turn decides which values are out of range. */

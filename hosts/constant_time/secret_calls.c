@@ -130,6 +130,7 @@ static void rejected(void)
 {
     respond(0, BLISS_SERVED);
     respond_largest(0);
+    /* One of four calls is, by its turn, and some of the others are by chance. */
     as_chosen &= rejected_by_z1_alone >= calls / 4;
 }
 
