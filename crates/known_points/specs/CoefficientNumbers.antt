@@ -8,7 +8,6 @@ use lib.IntN.{ℤ, pos, negsuc, natAbs}
 use lib.ListN.{getD, replicate}
 use Rattle.exponential.specs.Exponential.{polynomial}
 use Rattle.response.specs.Response.{responseZ, responseBit, respondEntries}
-use Rattle.session.specs.declared.Session.{Session}
 use Rattle.session.specs.Calls.{Respond, RespondLeft, respondLeft}
 use Rattle.known_points.specs.KnownPoints.{e, three, withZeros, bitOver}
 

@@ -1,5 +1,5 @@
 -- A response gives the same where what is lent agrees on its entries. Assumes nothing.
-use mathlib.Core.Path.{_≡_, ap₂}
+use mathlib.Core.Path.{_≡_}
 use mathlib.Core.Bool.{Bool}
 use mathlib.Core.List.{List}
 use Prim.Native.Nat.{ℕ, _≤_, _<_}
@@ -9,11 +9,9 @@ use lib.ListN.{getD}
 use Rattle.read_list.specs.Entries.{placesUp}
 use Rattle.read_list.specs.Agreement.{Lent, Agree}
 use Rattle.read_list.proofs.Agreement.{agree-first, agree-rest, agree-tail, agree-placesUp, same-word}
-use Rattle.signed.specs.Vectors.{squareSum, innerProduct}
 use Rattle.challenge_product.specs.Product.{product, productEntries}
 use Rattle.challenge_product.proofs.Agreement.{same-product}
-use Rattle.acceptance.specs.Acceptance.{acceptsBy}
-use Rattle.response.specs.Response.{respondEntries, responseZ, isBounded, measuresOf, responseBit}
+use Rattle.response.specs.Response.{respondEntries, responseZ, measuresOf, responseBit}
 
 module _ {a b : Lent} (n : ℕ) (accepted : Bool) (challenge : List ℕ) (h : n ≤ 1024) (same : Agree a b (respondEntries n accepted challenge)) where
   same-products : product (a .key) n challenge ≡ product (b .key) n challenge
@@ -34,8 +32,4 @@ module _ {a b : Lent} (n : ℕ) (accepted : Bool) (challenge : List ℕ) (h : n 
   pub same-bit : (e : ℕ → ℕ) (y : List ℤ)
       → responseBit e n y (product (a .key) n challenge) (a .words) ≡ responseBit e n y (product (b .key) n challenge) (b .words)
   unfolding responseBit measuresOf
-  same-bit e y =
-      let sc = product (b .key) n challenge in
-      let z = responseZ y sc (b .words) in
-      rw (same-z y, same-products)
-      (ap₂ (λ (v w : ℕ). acceptsBy e (record { squares = squareSum sc; norm = squareSum z; inner = innerProduct z sc; bounded = isBounded n z; second = v; third = w })) (same-words 1 (omega arith)) (same-words 2 (omega arith)))
+  same-bit e y = rw (same-z y, same-products, same-words 1 (omega arith), same-words 2 (omega arith))
