@@ -54,8 +54,8 @@ extern "C" {
  * C99 has no static assertions. */
 #define BLISS_LAYOUT(name, claim) typedef char bliss_layout_of_##name[(claim) ? 1 : -1]
 
-/* The version of this header, 10000 * major + 100 * minor + patch: 0.3.0. */
-#define BLISS_BOX_VERSION 300
+/* The version of this header, 10000 * major + 100 * minor + patch: 0.4.0. */
+#define BLISS_BOX_VERSION 400
 
 /* The version of the archive, by the same rule. A host compares it with BLISS_BOX_VERSION at its start, before any other call,
  * and ends where they differ: a session travels by value, and an archive of another version may take its bytes for something
@@ -249,6 +249,9 @@ static inline bool bliss_draw_fits(bliss_draw_answer answer, size_t n, const uin
 #define BLISS_RESPOND_WORDS 3
 #define BLISS_RESPOND_ENTRIES(n, positions) (2 * BLISS_CAST(size_t, n) * BLISS_CAST(size_t, positions) + 47)
 
+/* The largest size of a value of z1, the first n values of z, where the bit is true: BLISS-I's verification takes no larger. */
+#define BLISS_COEFFICIENT_LIMIT 2100
+
 /* What a response came to; refused, the bit is false and the count 0. */
 typedef struct {
     uint32_t refusal;
@@ -267,10 +270,11 @@ BLISS_LAYOUT(responded, sizeof(bliss_responded) == 32 && offsetof(bliss_responde
 /* Turns the noise y, a key and a challenge into a response z, or into a rejection.
  * Needs:   y, z and list writable, and apart from each other and from the rest: z must not overlap y. The key is s1 and then s2,
  *          the challenge its positions in ascending order.
- * Gives:   bit true: z is y plus or minus the product of key and challenge modulo X^n + 1; or bit false, a rejection: z is all
- *          zero. Either way y is all zero and the next session is not drawn, so that the noise is used once: a rejection wants a
- *          new draw. After the checks, each read of the key, the words and the polynomial is listed from the start of the list,
- *          and last the bit; bliss_filled gives the filled part.
+ * Gives:   bit true: z is y plus or minus the product of key and challenge modulo X^n + 1, and each of its first n values is from
+ *          -BLISS_COEFFICIENT_LIMIT to BLISS_COEFFICIENT_LIMIT; the second half is not tested: the host rounds it, and tests it
+ *          itself. Or bit false, a rejection: z is all zero. Either way y is all zero and the next session is not drawn, so that
+ *          the noise is used once: a rejection wants a new draw. After the checks, each read of the key, the words and the
+ *          polynomial is listed from the start of the list, and last the bit; bliss_filled gives the filled part.
  * Refuses: 1, 2, 4, 6, 7, 8, 9, 10, 11, in this order.
  * Leaves:  the list behind the entries, the challenge, the polynomial, the words and the key; refused, everything.
  * Time:    no jump and no address depends on words, key, y or z, except by the response's bit, which the list shows, and by

@@ -31,7 +31,8 @@ static const uint64_t polynomial[BLISS_POLYNOMIAL_WORDS] = BLISS_POLYNOMIAL;
 static const uint64_t cdt[BLISS_CDT_WORDS] = BLISS_CDT_215;
 static const uint32_t challenge[POSITIONS] = {0, 3};
 
-/* An attempt with words of 0 is accepted, and its sample is 0; the first has a b of 1. A response with a key of 0 is accepted. */
+/* An attempt with words of 0 is accepted, and its sample is 0; the first has a b of 1. A response with a key of 0 is its noise,
+ * and with words of 0 it is accepted if the values of its first half are in range. */
 static const uint64_t draw_words[BLISS_DRAW_WORDS(LIMIT)] = {0, 0, 1, 0};
 static const uint64_t respond_words[BLISS_RESPOND_WORDS] = {0, 0, 0};
 static const int32_t key[BLISS_SAMPLES(DEGREE)] = {0};
@@ -78,7 +79,8 @@ static bool draw_is_full(bliss_session *session)
            !bliss_noise_is_zero(y, BLISS_SAMPLES(DEGREE));
 }
 
-static bool response_is_accepted(bliss_session *session)
+/* Whether the noise in y makes a response with this bit, and whose list fits. */
+static bool response_has_bit(bliss_session *session, bool bit)
 {
     size_t list_length = BLISS_RESPOND_ENTRIES(DEGREE, POSITIONS);
     bliss_responded responded = bliss_respond(*session, challenge, POSITIONS, polynomial, BLISS_POLYNOMIAL_WORDS, respond_words,
@@ -87,9 +89,39 @@ static bool response_is_accepted(bliss_session *session)
     bliss_respond_answer answer = responded.answer;
 
     *session = responded.session;
-    return answer.refusal == BLISS_SERVED && answer.bit && !session->drawn &&
+    return answer.refusal == BLISS_SERVED && answer.bit == bit && !session->drawn &&
+           bliss_noise_is_zero(y, BLISS_SAMPLES(DEGREE)) &&
            bliss_filled(respond_list, list_length, answer.entries) == list_length &&
            bliss_respond_fits(answer, DEGREE, POSITIONS, respond_list, list_length);
+}
+
+/* Whether a response has this bit whose noise is all zero but for one value: accepted it is the noise, and rejected all zero. */
+static bool value_has_bit(size_t place, int32_t value, bool bit)
+{
+    bliss_session session = {DEGREE, true};
+
+    y[place] = value;
+    for (size_t i = 0; i < BLISS_SAMPLES(DEGREE); i++)
+        z[i] = 1;
+    if (!response_has_bit(&session, bit))
+        return false;
+    for (size_t i = 0; i < BLISS_SAMPLES(DEGREE); i++)
+        if (z[i] != (bit && i == place ? value : 0))
+            return false;
+    return true;
+}
+
+/* In the first half; the second may have larger ones. */
+static bool coefficients_end_at_their_limit(void)
+{
+    const int32_t limit = BLISS_COEFFICIENT_LIMIT;
+
+    for (size_t i = 0; i < DEGREE; i++)
+        if (!value_has_bit(i, limit, true) || !value_has_bit(i, -limit, true) || !value_has_bit(i, limit + 1, false) ||
+            !value_has_bit(i, -limit - 1, false) || !value_has_bit(DEGREE + i, limit + 1, true) ||
+            !value_has_bit(DEGREE + i, -limit - 1, true))
+            return false;
+    return true;
 }
 
 /* At length 1 the final sum is the sum of squares of the key: here 943 * 49 + 9 + 9, and 1 more. */
@@ -114,9 +146,9 @@ int main(void)
     if (bliss_version() != BLISS_BOX_VERSION)
         return 1;
     opened = bliss_open(DEGREE);
-    if (opened.refusal != BLISS_SERVED || !draw_is_full(&opened.session) || !response_is_accepted(&opened.session))
+    if (opened.refusal != BLISS_SERVED || !draw_is_full(&opened.session) || !response_has_bit(&opened.session, true))
         return 2;
-    if (!exponential_ends_at_its_limit() || !key_sum_ends_at_its_limit())
+    if (!exponential_ends_at_its_limit() || !key_sum_ends_at_its_limit() || !coefficients_end_at_their_limit())
         return 3;
     if (!numbers_go_up() || !entry_is_taken_apart(BLISS_KIND_BIT, 1))
         return 4;

@@ -1,4 +1,4 @@
-/* Compares the lists of a draw and of a response with those that the header's kinds and lengths make. */
+/* Compares the lists of a draw and of responses with those that the header's kinds and lengths make. */
 #include "bliss_box.h"
 
 #include <stdio.h>
@@ -11,7 +11,7 @@ static const uint64_t cdt[BLISS_CDT_WORDS] = BLISS_CDT_215;
 static const uint32_t challenge[POSITIONS] = {0, 3};
 
 /* Attempts with words of 0 are accepted, so that as many of them as samples make a full draw; and so is a response with such
- * words and a key of 0. */
+ * words and a key of 0, if the values of its first half are in range. */
 static const uint64_t words[BLISS_DRAW_WORDS(SAMPLES)];
 static const int32_t key[SAMPLES];
 static int32_t y[SAMPLES];
@@ -50,7 +50,7 @@ static void expect_draw(void)
     expect(BLISS_KIND_ACCEPTED, SAMPLES);
 }
 
-static void expect_response(void)
+static void expect_response(bool bit)
 {
     count = 0;
     expect(BLISS_KIND_RESPONSE, DEGREE);
@@ -61,7 +61,7 @@ static void expect_response(void)
         expect(BLISS_KIND_WORD, i);
     expect_polynomial();
     expect_polynomial();
-    expect(BLISS_KIND_BIT, 1);
+    expect(BLISS_KIND_BIT, bit);
 }
 
 /* Whether a call listed what is expected, and its list is just as long. */
@@ -73,19 +73,28 @@ static int same(const char *call, const uint32_t *list, size_t length, size_t en
     return right;
 }
 
+/* Whether a response to the noise in y lists what one with this bit does. */
+static int same_response(const char *call, bliss_session session, bool bit)
+{
+    bliss_responded responded =
+        bliss_respond(session, challenge, POSITIONS, polynomial, BLISS_POLYNOMIAL_WORDS, words, BLISS_RESPOND_WORDS, key, SAMPLES,
+                      y, SAMPLES, z, SAMPLES, respond_list, BLISS_RESPOND_ENTRIES(DEGREE, POSITIONS));
+
+    expect_response(bit);
+    return same(call, respond_list, BLISS_RESPOND_ENTRIES(DEGREE, POSITIONS), responded.answer.entries);
+}
+
 int main(void)
 {
     bliss_drawn drawn =
         bliss_draw(bliss_open(DEGREE).session, SAMPLES, cdt, BLISS_CDT_WORDS, polynomial, BLISS_POLYNOMIAL_WORDS, words,
                    BLISS_DRAW_WORDS(SAMPLES), y, SAMPLES, draw_list, BLISS_DRAW_ENTRIES(SAMPLES));
-    bliss_responded responded =
-        bliss_respond(drawn.session, challenge, POSITIONS, polynomial, BLISS_POLYNOMIAL_WORDS, words, BLISS_RESPOND_WORDS, key,
-                      SAMPLES, y, SAMPLES, z, SAMPLES, respond_list, BLISS_RESPOND_ENTRIES(DEGREE, POSITIONS));
     int right;
 
     expect_draw();
     right = same("draw", draw_list, BLISS_DRAW_ENTRIES(SAMPLES), drawn.answer.entries);
-    expect_response();
-    right &= same("response", respond_list, BLISS_RESPOND_ENTRIES(DEGREE, POSITIONS), responded.answer.entries);
+    right &= same_response("response, accepted", drawn.session, true);
+    y[0] = BLISS_COEFFICIENT_LIMIT + 1;
+    right &= same_response("response, rejected by a coefficient", drawn.session, false);
     return !right;
 }

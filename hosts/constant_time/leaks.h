@@ -4,6 +4,7 @@
 #define LEAKS_H
 
 #include "draws.h"
+#include "responses.h"
 
 #define LEAK __attribute__((noinline, unused)) static uint64_t
 
@@ -38,6 +39,17 @@ LEAK early_exit_check(const int32_t *values, size_t length)
 {
     for (size_t i = 0; i < length; i++)
         if (values[i] < -7 || values[i] > 7)
+            return 0;
+    return 1;
+}
+
+/* A test of z1 that ends at the first value out of range. */
+LEAK early_exit_coefficients(size_t n)
+{
+    int64_t sign = sign_of(lent.response_words[0] & 1);
+
+    for (size_t i = 0; i < n; i++)
+        if (is_beyond(z_at(i, sign)))
             return 0;
     return 1;
 }

@@ -39,48 +39,135 @@ static inline void thin(int32_t *values, size_t length)
         values[i] *= (int32_t)(secret_bit() & secret_bit());
 }
 
-/* At degrees 4 and 8 all values in range are used: A and Z stay within their limits, e(N2) is above 0, and the words decide. From
- * 16 on values are small, but for those of a rejected response, where a secret bit may make them large: the key takes A over its
- * limit, the noise Z, and both 2|I|. A long challenge at a large degree has a thin key, or A would always be over its limit. */
-static inline void fill_values(struct response r)
-{
-    int32_t large_key = (int32_t)((1 - r.bit) & secret_bit());
-    int32_t large_noise = (int32_t)((1 - r.bit) & secret_bit());
+/* The tests of a response: A, Z, the range of z1, word 1 and the cosh test. */
+enum { TEST_A, TEST_Z, TEST_Z1, TEST_WORD_1, TEST_COSH, TESTS };
 
-    fill_around(lent.key, 2 * r.n, r.n < 16 ? 0 : 6 * large_key, r.n < 16 ? 7 : 1);
+/* Which of them are to reject a response. */
+struct causes {
+    uint64_t by[TESTS];
+};
+
+/* None where it is accepted; else one test, alone or with some of the others. Of four seeds in a row one has z1 alone: so traces
+ * of that cause are compared with those of others. */
+static inline struct causes secret_causes(struct response r)
+{
+    /* Of a refused response the turn decides which values are out of range. */
+    uint64_t z1_alone = r.bit == 0 && r.refusal == BLISS_SERVED ? secret_turn() == 0 : 0;
+    uint64_t first = if_bit(z1_alone, TEST_Z1, secret_below(TESTS));
+    uint64_t with_others = secret_bit() & (1 - z1_alone);
+    struct causes causes;
+
+    for (uint64_t test = 0; test < TESTS; test++)
+        causes.by[test] = (1 - r.bit) & ((test == first) | (with_others & secret_bit()));
+    return causes;
+}
+
+/* The largest noise of the first half with which z1 stays in range, for a key of values up to `largest`. */
+static inline int32_t fitting_noise(struct response r, int32_t largest)
+{
+    return BLISS_COEFFICIENT_LIMIT - largest * (int32_t)r.positions;
+}
+
+/* At degrees 4 and 8 all keys in range are used, and all noise that keeps z1 in range: A and Z stay within their limits, e(N2) is
+ * above 0, and the words decide. From 16 on values are small, but where A or Z is to reject: a large key takes A over its limit,
+ * large noise Z, and both 2|I|. A long challenge at a large degree has a thin key, or A would always be over its limit. */
+static inline void fill_values(struct response r, struct causes causes)
+{
+    int32_t large_key = (int32_t)causes.by[TEST_A];
+    int32_t large_noise = (int32_t)causes.by[TEST_Z];
+
+    if (r.n < 16) {
+        fill_around(lent.key, 2 * r.n, 0, 7);
+        fill_around(lent.y, r.n, 0, fitting_noise(r, 7));
+        fill_around(lent.y + r.n, r.n, 0, 2815);
+    } else {
+        fill_around(lent.key, 2 * r.n, 6 * large_key, 1);
+        fill_around(lent.y, r.n, (fitting_noise(r, 1) - 100) * large_noise, 100);
+        fill_around(lent.y + r.n, r.n, 2715 * large_noise, 100);
+    }
     if (2 * r.n * r.positions > 65536)
         thin(lent.key, 2 * r.n);
-    fill_around(lent.y, 2 * r.n, r.n < 16 ? 0 : 2600 * large_noise, r.n < 16 ? 2815 : 215);
     /* As the product of a key of positive values has them. */
     for (size_t i = 0; i < 2 * r.n; i++)
         lent.y[i] *= i % r.n < r.n / 2 ? -1 : 1;
 }
 
-/* A, Z and I of a response. */
-struct sums {
-    uint64_t squares;
-    uint64_t norm;
-    int64_t inner;
-};
+/* The product of key and challenge. */
+static int32_t product[BLISS_SAMPLES(MOST_DEGREE)];
 
-static inline struct sums sums_of(struct response r, int64_t sign)
+static inline void fill_product(struct response r)
 {
-    struct sums sums = {0, 0, 0};
-
     for (size_t i = 0; i < 2 * r.n; i++) {
         const int32_t *s = lent.key + i / r.n * r.n;
         size_t at = i % r.n;
-        int64_t product = 0;
-        int64_t value;
 
+        product[i] = 0;
         for (size_t j = 0; j < r.positions; j++)
-            product += at >= challenge[j] ? s[at - challenge[j]] : -s[at + r.n - challenge[j]];
-        value = lent.y[i] + sign * product;
-        sums.squares += (uint64_t)(product * product);
-        sums.norm += (uint64_t)(value * value);
-        sums.inner += value * product;
+            product[i] += at >= challenge[j] ? s[at - challenge[j]] : -s[at + r.n - challenge[j]];
     }
-    return sums;
+}
+
+/* The place of the first value, of the last, or of any one, by a number below 4. */
+static inline uint64_t secret_place(uint64_t where, size_t length)
+{
+    return if_bit(where == 1, length - 1, if_bit(where > 1, secret_below(length), 0));
+}
+
+static inline int64_t sign_of(uint64_t minus)
+{
+    return 1 - 2 * (int64_t)minus;
+}
+
+/* Takes z1 to an end of its range, or beyond one: in the first value, the last, any one, or a few, so that Z stays within its
+ * limit. y stays in range, whatever the product is. */
+static inline void stretch(struct response r, int64_t sign, uint64_t beyond)
+{
+    uint64_t farthest = 2815 - 7 * r.positions;
+    uint64_t where = secret_below(4);
+    uint64_t place = secret_place(where, r.n);
+
+    for (size_t i = 0; i < r.n; i++) {
+        uint64_t here = (i == place) | ((where == 3) & (secret_below(r.n) < 4));
+        uint64_t size = BLISS_COEFFICIENT_LIMIT + beyond * (1 + secret_at_edges(farthest - BLISS_COEFFICIENT_LIMIT));
+        int64_t value = sign_of(secret_bit()) * (int64_t)size;
+
+        lent.y[i] = (int32_t)if_bit(here, (uint64_t)(value - sign * product[i]), (uint64_t)lent.y[i]);
+    }
+}
+
+/* A value of z, as it is handed back. */
+static inline int64_t z_at(size_t i, int64_t sign)
+{
+    return lent.y[i] + sign * product[i];
+}
+
+/* Whether a value of z1 is out of range. */
+static inline uint64_t is_beyond(int64_t value)
+{
+    return (value < -BLISS_COEFFICIENT_LIMIT) | (value > BLISS_COEFFICIENT_LIMIT);
+}
+
+/* A, Z and I of a response, and whether z1 has a value out of range. */
+struct measures {
+    uint64_t squares;
+    uint64_t norm;
+    int64_t inner;
+    uint64_t beyond;
+};
+
+static inline struct measures measures_of(struct response r, int64_t sign)
+{
+    struct measures m = {0, 0, 0, 0};
+
+    for (size_t i = 0; i < 2 * r.n; i++) {
+        int64_t value = z_at(i, sign);
+
+        m.squares += (uint64_t)(product[i] * product[i]);
+        m.norm += (uint64_t)(value * value);
+        m.inner += value * product[i];
+        m.beyond |= (i < r.n) & is_beyond(value);
+    }
+    return m;
 }
 
 /* The whole part of a / b, in as many steps for every a and b; the quotient is below 2^63. */
@@ -98,15 +185,15 @@ static inline uint64_t quotient(u128 a, u128 b)
 }
 
 /* e(N1): the first word 1 that does not pass; 2^62 if all do. */
-static inline uint64_t first_edge(struct sums sums)
+static inline uint64_t first_edge(struct measures m)
 {
-    return bliss_exponential(if_bit(sums.squares <= 46225, 46225 - sums.squares, 0));
+    return bliss_exponential(if_bit(m.squares <= 46225, 46225 - m.squares, 0));
 }
 
 /* The first word 2 that does not pass; 2^62 if all do. */
-static inline uint64_t cosh_edge(struct sums sums)
+static inline uint64_t cosh_edge(struct measures m)
 {
-    uint64_t doubled = 2 * if_bit((uint64_t)sums.inner >> 63, -(uint64_t)sums.inner, (uint64_t)sums.inner);
+    uint64_t doubled = 2 * if_bit((uint64_t)m.inner >> 63, -(uint64_t)m.inner, (uint64_t)m.inner);
     uint64_t e = bliss_exponential(if_bit(doubled <= BLISS_EXPONENTIAL_LIMIT, doubled, BLISS_EXPONENTIAL_LIMIT));
     u128 factor = one + (uint64_t)((u128)e * e >> 62);
 
@@ -122,19 +209,22 @@ static inline uint64_t word_at(uint64_t edge, uint64_t is_below)
     return ((least + secret_at_edges(bound)) & (one - 1)) | secret_word() << 62;
 }
 
-/* Words that accept, or that reject: by word 1, by word 2 where one can, by both, or by none where A or Z is over its limit. */
-static inline void fill_words(struct response r)
+/* How many responses were prepared that are rejected by z1 alone, since they pass all other tests. */
+static uint64_t rejected_by_z1_alone;
+
+/* Words with this sign that accept, or that reject where they are to. Word 1 rejects too where no other test can. */
+static inline void fill_words(struct response r, uint64_t minus, struct causes causes)
 {
-    uint64_t minus = secret_bit();
-    struct sums sums = sums_of(r, 1 - 2 * (int64_t)minus);
-    uint64_t edge = cosh_edge(sums);
-    uint64_t over = (sums.squares > 46225) | (sums.norm > 165688384);
-    uint64_t by_cosh = (1 - r.bit) & secret_bit() & (edge < one);
-    uint64_t by_word_1 = (1 - r.bit) & ((1 - (by_cosh | over)) | secret_bit());
+    struct measures m = measures_of(r, sign_of(minus));
+    uint64_t edge = cosh_edge(m);
+    uint64_t over = (m.squares > 46225) | (m.norm > 165688384);
+    uint64_t by_cosh = causes.by[TEST_COSH] & (edge < one);
+    uint64_t by_word_1 = causes.by[TEST_WORD_1] | ((1 - r.bit) & (1 - (over | m.beyond | by_cosh)));
 
     lent.response_words[0] = minus | secret_word() << 1;
-    lent.response_words[1] = word_at(first_edge(sums), 1 - by_word_1);
+    lent.response_words[1] = word_at(first_edge(m), 1 - by_word_1);
     lent.response_words[2] = word_at(edge, 1 - by_cosh);
+    rejected_by_z1_alone += m.beyond & (1 - (over | by_word_1 | by_cosh));
 }
 
 /* Puts a value out of range at a place, where it is in the length, and at half of all places where there are to be several. */
@@ -153,9 +243,8 @@ static inline void spoil(int32_t *values, size_t length, uint32_t bound, uint64_
 static inline void spoil_somewhere(int32_t *values, size_t length, uint32_t bound)
 {
     uint64_t where = secret_turn();
-    uint64_t place = if_bit(where == 1, length - 1, if_bit(where > 1, secret_below(length), 0));
 
-    spoil(values, length, bound, place, where == 3);
+    spoil(values, length, bound, secret_place(where, length), where == 3);
 }
 
 /* Spoils one value or none. */
@@ -177,12 +266,21 @@ static inline void spoil_refused(struct response r)
         spoil_perhaps(lent.y, 2 * r.n, 2815);
 }
 
+static inline void prepare_response_by(struct response r, struct causes causes)
+{
+    uint64_t minus = secret_bit();
+
+    fill_challenge(r);
+    fill_values(r, causes);
+    fill_product(r);
+    stretch(r, sign_of(minus), causes.by[TEST_Z1]);
+    fill_words(r, minus, causes);
+    spoil_refused(r);
+}
+
 static inline void prepare_response(struct response r)
 {
-    fill_challenge(r);
-    fill_values(r);
-    fill_words(r);
-    spoil_refused(r);
+    prepare_response_by(r, secret_causes(r));
 }
 
 static inline bliss_responded made_response(struct response r)

@@ -1,7 +1,7 @@
 /* Calls with secrets, whose traces are compared, and which memcheck watches: `secret_calls KIND SEED`. The seed, one character,
  * gives the secrets. What is public of the calls of a kind is the same for every seed, and no jump or address of their preparation
- * depends on the seed. Prints how many calls and attempts were made. Fails where one did not come out as it was chosen: then
- * traces would show nothing. */
+ * depends on the seed. Prints how many calls and attempts were made. Fails where one did not come out as it was chosen, or too few
+ * were rejected by z1 alone: then traces would show nothing. */
 #include "bliss_box.h"
 #include "draws.h"
 #include "key_checks.h"
@@ -130,6 +130,8 @@ static void rejected(void)
 {
     respond(0, BLISS_SERVED);
     respond_largest(0);
+    /* One of four calls is, by its turn, and some of the others are by chance. */
+    as_chosen &= rejected_by_z1_alone >= calls / 4;
 }
 
 static void refused_9(void)
@@ -230,6 +232,15 @@ static void leaking_check(void)
     }
 }
 
+static void leaking_coefficients(void)
+{
+    for (uint64_t i = 0; i < OFTEN; i++) {
+        prepare_response((struct response){4, 4, 0, BLISS_SERVED, i});
+        begin_call();
+        result = early_exit_coefficients(4);
+    }
+}
+
 static void leaking_pick(void)
 {
     for (int i = 0; i < OFTEN; i++) {
@@ -260,6 +271,7 @@ static const struct kind {
     {"leaking_place", leaking_place},
     {"leaking_scan", leaking_scan},
     {"leaking_check", leaking_check},
+    {"leaking_coefficients", leaking_coefficients},
     {"leaking_pick", leaking_pick},
 };
 

@@ -86,6 +86,19 @@ static void any_rejected(void)
     prepare_response(rejected);
 }
 
+static void by_z1_alone(void)
+{
+    prepare_response_by(rejected, (struct causes){.by[TEST_Z1] = 1});
+}
+
+static void by_others(void)
+{
+    struct causes causes = secret_causes(rejected);
+
+    causes.by[TEST_Z1] = 0;
+    prepare_response_by(rejected, causes);
+}
+
 static void zero_key(void)
 {
     memset(lent.key, 0, sizeof lent.key);
@@ -99,7 +112,7 @@ static void any_key(void)
 /* One value that is out of range, at a place below a bound. */
 static void spoil_one(int32_t *values, uint32_t bound, uint64_t places)
 {
-    fill_values(accepted);
+    fill_values(accepted, (struct causes){0});
     spoil(values, 2 * accepted.n, bound, secret_below(places), 0);
 }
 
@@ -172,6 +185,7 @@ static const struct timed all_timed[] = {
     {"bliss_draw, full", any_draw, any_draw, call_draw, 1024, WORDS, 10000, false},
     {"bliss_respond, bit 1", any_accepted, any_accepted, call_respond, 1, RESPONSE, 20000, false},
     {"bliss_respond, bit 0", any_rejected, any_rejected, call_respond, 0, RESPONSE, 20000, false},
+    {"bliss_respond, bit 0: by z1 alone, or by others", by_z1_alone, by_others, call_respond, 0, RESPONSE, 20000, false},
     {"bliss_respond, refusal 10: bad first, or anywhere", bad_key_first, bad_key_any, call_respond, 110, RESPONSE, 50000, false},
     {"bliss_respond, refusal 11: bad first, or anywhere", bad_y_first, bad_y_any, call_respond, 111, RESPONSE, 50000, false},
     {"bliss_check_key: the key is 0, or any that passes", zero_key, any_key, call_check_key, 0, RESPONSE, 1000, false},
