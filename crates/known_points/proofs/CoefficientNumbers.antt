@@ -13,14 +13,14 @@ use Rattle.known_points.specs.CoefficientNumbers.{lastOfFirstHalf, bitOf
 use Rattle.known_points.proofs.KnownPoints.{cosh-one}
 use Rattle.known_points.proofs.Computing.{wholeCalls, lists}
 
-not-true : (t : Bool) → (t ≡ true → ⊥) → t ≡ false
-not-true true h = absurd (h refl)
-not-true false h = refl
+never-true : (t : Bool) → (t ≡ true → ⊥) → t ≡ false
+never-true true h = absurd (h refl)
+never-true false h = refl
 
 too-large : (n : ℕ) (y sc : List ℤ) (words : List ℕ) (i : ℕ) → i < n → 2100 < natAbs (getD (responseZ y sc words) i (pos 0))
     → responseBit e n y sc words ≡ false
 too-large n y sc words i h g =
-    not-true (responseBit e n y sc words) (λ b. omega (arith, bit-by-tests e n y sc words .0 b .coefficients i h))
+    never-true (responseBit e n y sc words) (λ b. omega (arith, bit-by-tests e n y sc words .0 b .coefficients i h))
 
 -- the same where Sc is zero and y has the value
 noise-too-large : (y : List ℤ) (words : List ℕ) (i : ℕ) → i < 4

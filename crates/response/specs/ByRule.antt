@@ -1,4 +1,5 @@
--- A response by the words of document 01 and request S-2: z value by value, the tests of its bit, and where its reads are listed. Assumes nothing.
+-- A response by the words of document 01 and request S-2: z value by value, the tests of its bit, and where its reads are listed. Assumes
+-- nothing.
 use mathlib.Core.Path.{_≡_}
 use mathlib.Core.Bool.{Bool, true}
 use mathlib.Core.List.{List, [], _∷_, _++_}
