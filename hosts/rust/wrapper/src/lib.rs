@@ -75,7 +75,7 @@ pub use key_check::{check_key, KeyCheck, KEY_SUM_LIMIT};
 pub use owned::{CallError, Noise, OwnedDraw, OwnedResponse, Spent};
 pub use read_list::{filled, Entry, Kind};
 pub use refusal::Refusal;
-pub use respond::{challenge_limit, respond_list_length, Outcome, Responded, RESPOND_WORDS};
+pub use respond::{challenge_limit, respond_list_length, Outcome, Responded, COEFFICIENT_LIMIT, RESPOND_WORDS};
 pub use secret::Secret;
 pub use session::Session;
 pub use tables::{CDT, POLYNOMIAL};

@@ -14,6 +14,10 @@ pub const fn challenge_limit(n: usize) -> usize {
     }
 }
 
+/// The greatest size of a value of z1, the first n values of z, in a response with bit true. A verifier of BLISS-I throws out a
+/// signature with a greater one, so the response is rejected. z2 is not tested: the host rounds it, and tests that half itself.
+pub const COEFFICIENT_LIMIT: i32 = 2_100;
+
 /// The words that a response must be lent.
 pub const RESPOND_WORDS: usize = 3;
 
@@ -52,7 +56,8 @@ impl Session {
     ///
     /// The words must be fresh random words, as many as [`RESPOND_WORDS`] or more, used for this response alone. With noise drawn
     /// by [`CDT`](crate::CDT) a response is accepted with a chance of about 0.61, and never where the product's sum of squares is
-    /// above 46,225; a key that passes [`check_key`](crate::check_key) at the challenge's length makes no such product.
+    /// above 46,225; a key that passes [`check_key`](crate::check_key) at the challenge's length makes no such product. Nor is one
+    /// accepted with a value of z1 above [`COEFFICIENT_LIMIT`] in size, which this noise all but never makes.
     #[allow(clippy::too_many_arguments)]
     pub fn respond(
         self,

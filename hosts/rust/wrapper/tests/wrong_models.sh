@@ -90,7 +90,13 @@ wrong_by_padding() {
          }"
 }
 
-# Document 01's calls.
+# wrong_z1 NAME VALUE: one that tests other values, at place i, for those of z1.
+wrong_z1() {
+    wrong "$1" 'let bit = response.bit();' \
+        "let bit = response.tests()[..4] == [true; 4] && (0..n).all(|i| $2.abs() <= COEFFICIENT_LIMIT);"
+}
+
+# Document 01's calls, and what document 02 changed of them.
 words='openings filled exponentials draws responses lists demand'
 compare || fail "the right model is not the archive's"
 
@@ -230,8 +236,8 @@ wrong 'the cosh test on high words alone' 'self.tested2 * (ONE + self.f) < self.
 wrong 'the cosh test passes at equal high words' 'self.tested2 * (ONE + self.f) < self.e2 * (1 << 63)' \
     '(self.tested2 * (ONE + self.f)) >> 64 <= (self.e2 * (1 << 63)) >> 64'
 wrong 'no cosh test' 'self.tested2 * (ONE + self.f) < self.e2 * (1 << 63)' 'true'
-wrong 'every response is rejected' 'self.tests() == [true; 4]' 'false'
-wrong 'three tests of four are enough' 'self.tests() == [true; 4]' 'self.tests().iter().filter(|&&test| test).count() >= 3'
+wrong 'every response is rejected' 'self.tests() == [true; 5]' 'false'
+wrong 'four tests of five are enough' 'self.tests() == [true; 5]' 'self.tests().iter().filter(|&&test| test).count() >= 4'
 wrong 'z before the call is kept on bit 0' 'else { vec![0; 2 * n] }' 'else { call.z.clone() }'
 wrong 'y is kept' 'y: vec![0; 2 * n],' 'y: call.y.clone(),'
 wrong 'y is kept on bit 0' 'y: vec![0; 2 * n],' 'y: if bit { vec![0; 2 * n] } else { call.y.clone() },'
@@ -240,6 +246,37 @@ wrong 'drawn is kept on bit 0' 'Session { degree: n, drawn: false }' 'Session { 
 wrong 'a refused response zeroes y' 'y: call.y.clone(),' 'y: vec![0; call.y.len()],'
 wrong 'a refused response zeroes z' 'z: call.z.clone(),' 'z: vec![0; call.z.len()],'
 wrong 'a refused response clears drawn' 'session: call.session,' 'session: Session { drawn: false, ..call.session },'
+
+# Document 02's test of z1
+z1='&self.z[..self.z.len() / 2]'
+within='(-COEFFICIENT_LIMIT..=COEFFICIENT_LIMIT)'
+by_z1='response.tests() == [true, true, true, true, false]'
+wrong 'z1 is not tested' 'self.tests() == [true; 5]' 'self.tests()[..4] == [true; 4]'
+wrong 'z2 is tested too' "$z1" '&self.z'
+wrong 'z2 is tested instead' "$z1" '&self.z[self.z.len() / 2..]'
+wrong 'the first value of z1 is not tested' "$z1" '&self.z[1..self.z.len() / 2]'
+wrong 'the last value of z1 is not tested' "$z1" '&self.z[..self.z.len() / 2 - 1]'
+wrong 'the first value of z1 alone is tested' "$z1" '&self.z[..1]'
+wrong 'one value of z1 that passes is enough' 'self.z1().iter().all' 'self.z1().iter().any'
+wrong '2,100 is rejected' "$within" '(-COEFFICIENT_LIMIT..COEFFICIENT_LIMIT)'
+wrong '-2,100 is rejected' "$within" '(1 - COEFFICIENT_LIMIT..=COEFFICIENT_LIMIT)'
+wrong '2,101 passes' "$within" '(-COEFFICIENT_LIMIT..=COEFFICIENT_LIMIT + 1)'
+wrong '-2,101 passes' "$within" '(-COEFFICIENT_LIMIT - 1..=COEFFICIENT_LIMIT)'
+wrong 'values above 0 alone are tested' "$within" '(..=COEFFICIENT_LIMIT)'
+wrong 'values below 0 alone are tested' "$within" '(-COEFFICIENT_LIMIT..)'
+wrong_z1 'y is tested' 'i128::from(call.y[i])'
+wrong_z1 'y + Sc is tested by both signs' '(i128::from(call.y[i]) + sc[i])'
+wrong_z1 'y - Sc is tested by both signs' '(i128::from(call.y[i]) - sc[i])'
+wrong_z1 'z1 is tested by the other sign' '(2 * i128::from(call.y[i]) - response.z[i])'
+wrong 'z is kept where z1 rejects' 'z: if bit {' "z: if bit || $by_z1 {"
+wrong 'z before the call is kept where z1 rejects' 'else { vec![0; 2 * n] }' \
+    "else if $by_z1 { call.z.clone() } else { vec![0; 2 * n] }"
+wrong 'y is kept where z1 rejects' 'y: vec![0; 2 * n],' "y: if $by_z1 { call.y.clone() } else { vec![0; 2 * n] },"
+wrong 'drawn is kept where z1 rejects' 'Session { degree: n, drawn: false }' "Session { degree: n, drawn: $by_z1 }"
+wrong 'the last entry is missing where z1 rejects' 'let entries = entries_of(n, &call.challenge, bit);' \
+    "let mut entries = entries_of(n, &call.challenge, bit);
+     if $by_z1 { entries.pop(); }"
+wrong 'kind 9 has 1 where z1 rejects' 'entries_of(n, &call.challenge, bit)' "entries_of(n, &call.challenge, bit || $by_z1)"
 
 # Read list of a response
 wrong 'words before the key' 'entries.push(entry(2, place));' 'entries.insert(1 + place, entry(2, place));'

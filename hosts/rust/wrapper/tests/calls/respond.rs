@@ -2,7 +2,9 @@
 
 use super::{either_sign, positions, shorten, spoil_polynomial, spoil_values, top_bits, within, wrong_length};
 use super::{BOUND, FORGED_DEGREES};
-use crate::model::respond::{list_asked, product, Call, Response, PRODUCT_LIMIT, RESPONSE_LIMIT, WORDS_ASKED};
+use crate::model::respond::{
+    list_asked, product, Call, Response, COEFFICIENT_LIMIT, PRODUCT_LIMIT, RESPONSE_LIMIT, WORDS_ASKED,
+};
 use crate::model::{Session, POLYNOMIAL};
 use crate::random::Random;
 
@@ -15,6 +17,9 @@ pub const GREATEST_KEY: i32 = 7;
 
 /// The greatest value of y.
 pub const GREATEST_Y: i32 = 2815;
+
+/// The greatest value of z1 in a response that is not rejected.
+pub const GREATEST_Z1: i32 = COEFFICIENT_LIMIT as i32;
 
 /// A call with everything right, apart from a degree that may be a refused one.
 pub fn right(random: &mut Random, degree: usize) -> Call {
@@ -157,67 +162,109 @@ fn tune(random: &mut Random, key: &mut [i32], challenge: &[u32], target: i128) {
 }
 
 /// I at 0 and near it; and the greatest I whose e is not 0, and the next.
-const INNER_EDGES: [i128; 4] = [0, 1, 1_986_525, 1_986_526];
+const INNER_EDGES: [i64; 4] = [0, 1, 1_986_525, 1_986_526];
 
 /// Z at its limit and above, and those that are at most the limit in 32 bits.
 const RESPONSE_EDGES: [u128; 4] = [RESPONSE_LIMIT, RESPONSE_LIMIT + 1, 1 << 32, (1 << 32) + RESPONSE_LIMIT];
 
-/// A right y: noise, the greatest values, a multiple of the product for a large I, or a y whose I or Z is at an edge.
+/// A right y: noise, great values, a multiple of the product for a large I, or a y whose I, Z or z1 is at an edge.
 fn y(random: &mut Random, product: &[i128], minus: bool) -> Vec<i32> {
-    let length = product.len();
-    match random.below(12) {
-        0 => vec![0; length],
-        // The deviation of a draw's noise.
-        1 | 2 => (0..length).map(|_| within(random, 372)).collect(),
-        3 => (0..length).map(|_| within(random, GREATEST_Y)).collect(),
-        4 => (0..length).map(|_| either_sign(random, GREATEST_Y)).collect(),
-        5 | 6 => {
-            let times = within(random, 62);
-            product.iter().map(|&value| (value as i32 * times).clamp(-GREATEST_Y, GREATEST_Y)).collect()
-        }
+    // What is added to y.
+    let shifts: Vec<i32> = product.iter().map(|&value| if minus { -value as i32 } else { value as i32 }).collect();
+    match random.below(15) {
+        0 => vec![0; shifts.len()],
+        1 | 2 => noise(random, shifts.len()),
+        3..=6 => great_y(random, &shifts),
         7 | 8 => {
             let target = random.pick(&INNER_EDGES) * random.pick(&[1, -1]);
-            y_of_inner(product, minus, target)
+            y_of_inner(&shifts, target)
         }
-        _ => {
+        9..=11 => {
             let target = random.pick(&RESPONSE_EDGES);
-            y_of_squares(random, product, minus, target as i64)
+            y_of_squares(random, &shifts, target as i64)
         }
+        _ => y_of_coefficients(random, &shifts),
     }
 }
 
-/// A y whose I is the target, where the product allows it: a multiple of the product, and what is left goes to the places of the
-/// product's greatest values first.
-fn y_of_inner(product: &[i128], minus: bool, target: i128) -> Vec<i32> {
-    let bound = i128::from(GREATEST_Y);
-    let squares: i128 = product.iter().map(|value| value * value).sum();
-    // I is the sum of products of y and Sc, and A more, or less.
-    let wanted = if minus { target + squares } else { target - squares };
+/// Values of the deviation of a draw's noise.
+fn noise(random: &mut Random, length: usize) -> Vec<i32> {
+    (0..length).map(|_| within(random, 372)).collect()
+}
+
+/// Values up to the greatest, all at the greatest, or a multiple of what is added to y. In most of them z1 is brought to pass.
+fn great_y(random: &mut Random, shifts: &[i32]) -> Vec<i32> {
+    let (kind, times) = (random.below(4), within(random, 62));
+    let value = |&shift: &i32| match kind {
+        0 => within(random, GREATEST_Y),
+        1 => either_sign(random, GREATEST_Y),
+        _ => (shift * times).clamp(-GREATEST_Y, GREATEST_Y),
+    };
+    let y: Vec<i32> = shifts.iter().map(value).collect();
+    if random.one_in(4) {
+        return y;
+    }
+    let ends = passing_ends(shifts);
+    y.iter().zip(ends).map(|(y, (least, most))| *y.clamp(&least, &most)).collect()
+}
+
+/// The least and the greatest value of y at each place by which z1 passes, where this is added to y.
+fn passing_ends(shifts: &[i32]) -> Vec<(i32, i32)> {
+    let n = shifts.len() / 2;
+    let z1 = shifts[..n].iter().map(|shift| (-GREATEST_Z1 - shift, GREATEST_Z1 - shift));
+    let z2 = shifts[n..].iter().map(|_| (-GREATEST_Y, GREATEST_Y));
+    z1.chain(z2).collect()
+}
+
+/// A y whose I is the target or its negative, where the product allows it: a multiple of what is added to y, and what is left goes
+/// to the places of its greatest values first.
+fn y_of_inner(shifts: &[i32], target: i64) -> Vec<i32> {
+    let ends = passing_ends(shifts);
+    let shifts: Vec<i64> = shifts.iter().map(|&shift| shift.into()).collect();
+    let passing = |place: usize, value: i64| value.clamp(ends[place].0.into(), ends[place].1.into());
+    // The sum of products with z is that with y, and A more.
+    let squares: i64 = shifts.iter().map(|shift| shift * shift).sum();
+    let wanted = target - squares;
     let times = wanted / squares.max(1);
-    let mut y: Vec<i128> = product.iter().map(|value| (value * times).clamp(-bound, bound)).collect();
-    let mut left = wanted - y.iter().zip(product).map(|(y, value)| y * value).sum::<i128>();
-    let mut places: Vec<usize> = (0..y.len()).filter(|&place| product[place] != 0).collect();
-    places.sort_by_key(|&place| -product[place].abs());
+    let mut y: Vec<i64> = (0..shifts.len()).map(|place| passing(place, shifts[place] * times)).collect();
+    let mut left = wanted - y.iter().zip(&shifts).map(|(y, shift)| y * shift).sum::<i64>();
+    let mut places: Vec<usize> = (0..y.len()).filter(|&place| shifts[place] != 0).collect();
+    places.sort_by_key(|&place| -shifts[place].abs());
     for place in places {
-        let value = (y[place] + left / product[place]).clamp(-bound, bound);
-        left -= (value - y[place]) * product[place];
+        let value = passing(place, y[place] + left / shifts[place]);
+        left -= (value - y[place]) * shifts[place];
         y[place] = value;
     }
     y.into_iter().map(|value| value as i32).collect()
 }
 
-/// A y whose Z is the target, where the degree has one. Each value of z takes about an equal part of what is left, and the last
-/// ones as much as they can.
-fn y_of_squares(random: &mut Random, product: &[i128], minus: bool, target: i64) -> Vec<i32> {
+/// A y whose Z is the target, where the degree has one with a z1 that passes. Each value of z takes about an equal part of what is
+/// left, and the last ones as much as they can.
+fn y_of_squares(random: &mut Random, shifts: &[i32], target: i64) -> Vec<i32> {
     let mut left = target;
     let mut y = Vec::new();
-    for (place, &value) in product.iter().enumerate() {
-        let places = (product.len() - place) as i64;
-        let shift = if minus { -value as i32 } else { value as i32 };
+    for (place, (shift, (least, most))) in shifts.iter().zip(passing_ends(shifts)).enumerate() {
+        let places = (shifts.len() - place) as i64;
         let part = if places > 12 { left * (6 + random.below(5) as i64) / (8 * places) } else { left };
-        let size = ((part as f64).sqrt() as i32).min(GREATEST_Y - shift.abs());
+        let size = ((part as f64).sqrt() as i32).min(most + shift).min(-least - shift);
         left -= i64::from(size) * i64::from(size);
         y.push(either_sign(random, size) - shift);
+    }
+    y
+}
+
+/// Noise, and some values of z1 and z2, those at their ends above all, at the limit of z1, just above it and far above.
+fn y_of_coefficients(random: &mut Random, shifts: &[i32]) -> Vec<i32> {
+    let mut y = noise(random, shifts.len());
+    let n = shifts.len() / 2;
+    if n > 0 {
+        for _ in 0..=random.below(3) {
+            let any = random.below(2 * n);
+            let place = random.pick(&[0, n - 1, n, 2 * n - 1, any]);
+            let far = GREATEST_Y - shifts[place].abs();
+            let size = random.pick(&[GREATEST_Z1, GREATEST_Z1, GREATEST_Z1 + 1, GREATEST_Z1 + 1, far]);
+            y[place] = either_sign(random, size) - shifts[place];
+        }
     }
     y
 }

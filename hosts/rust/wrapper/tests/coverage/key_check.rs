@@ -1,6 +1,6 @@
 //! What key checks came across.
 
-use super::respond::{BY_COSH, BY_WORD_1, BY_Z};
+use super::respond::{BY_COSH, BY_WORD_1, BY_Z, BY_Z1};
 use super::{at_degree, refused, Coverage};
 use crate::calls::respond::GREATEST_KEY;
 use crate::model::key_check::{Call, Checked, Sums, SUM_LIMIT};
@@ -87,6 +87,7 @@ impl Coverage {
         self.see("rejected by Z alone", r.tests() == BY_Z);
         self.see("rejected by word 1 alone", r.tests() == BY_WORD_1);
         self.see("rejected by the cosh test alone", r.tests() == BY_COSH);
+        self.see("rejected by z1 alone", r.tests() == BY_Z1);
     }
 }
 

@@ -13,6 +13,7 @@ use crate::run;
 pub use draw::REFUSALS as DRAW_REFUSALS;
 pub use key_check::REFUSALS as KEY_CHECK_REFUSALS;
 pub use respond::REFUSALS as RESPOND_REFUSALS;
+pub use respond::{BY_A, BY_COSH, BY_Z, BY_Z1};
 
 /// The top two bits of a word, which 62 of the word leaves out.
 const TOP_BITS: [u64; 4] = [0, 1, 2, 3];

@@ -1,17 +1,18 @@
 //! What respond calls came across.
 
 use super::{at_degree, Coverage, TOP_BITS};
-use crate::calls::respond::{GREATEST_KEY, GREATEST_Y};
+use crate::calls::respond::{GREATEST_KEY, GREATEST_Y, GREATEST_Z1};
 use crate::model::respond::{list_asked, Call, Responded, Response, PRODUCT_LIMIT, RESPONSE_LIMIT, WORDS_ASKED};
 
 /// The refusals of a respond call.
 pub const REFUSALS: [u32; 9] = [1, 2, 4, 6, 7, 8, 9, 10, 11];
 
-/// The four tests of a response, where one alone fails.
-const BY_A: [bool; 4] = [false, true, true, true];
-pub const BY_Z: [bool; 4] = [true, false, true, true];
-pub const BY_WORD_1: [bool; 4] = [true, true, false, true];
-pub const BY_COSH: [bool; 4] = [true, true, true, false];
+/// The five tests of a response, where one alone fails.
+pub const BY_A: [bool; 5] = [false, true, true, true, true];
+pub const BY_Z: [bool; 5] = [true, false, true, true, true];
+pub const BY_WORD_1: [bool; 5] = [true, true, false, true, true];
+pub const BY_COSH: [bool; 5] = [true, true, true, false, true];
+pub const BY_Z1: [bool; 5] = [true, true, true, true, false];
 
 impl Coverage {
     /// Counts a respond call that was compared.
@@ -27,6 +28,8 @@ impl Coverage {
             self.count_sums(call, response);
             self.count_accepted(call, response);
             self.count_rejected(response);
+            self.count_accepted_coefficients(call, response);
+            self.count_rejected_coefficients(call, response);
             self.count_edges_of_words(call, response);
         }
         if refusal == 6 {
@@ -74,7 +77,7 @@ impl Coverage {
         self.see("accepted, Z = 165,688,384", r.bit() && r.response_squares == RESPONSE_LIMIT);
         self.see("rejected by A = 46,226 alone", r.tests() == BY_A && r.product_squares == 46_226);
         self.see("rejected by Z = 165,688,385 alone", r.tests() == BY_Z && r.response_squares == 165_688_385);
-        self.see("rejected by A and Z alone", r.tests() == [false, false, true, true]);
+        self.see("rejected by A and Z alone", r.tests() == [false, false, true, true, true]);
         self.see("accepted, a value of y at 2,815", r.bit() && call.y.contains(&GREATEST_Y));
         self.see("accepted, a value of y at -2,815", r.bit() && call.y.contains(&-GREATEST_Y));
         self.see("accepted, a value of the key at 7", r.bit() && call.key.contains(&GREATEST_KEY));
@@ -99,16 +102,47 @@ impl Coverage {
 
     /// Counts a response that one of its tests alone rejects.
     fn count_rejected(&mut self, r: &Response) {
-        let mut see = |case: &str, tests: [bool; 4], met: bool| self.see(case, met && r.tests() == tests);
+        let mut see = |case: &str, tests: [bool; 5], met: bool| self.see(case, met && r.tests() == tests);
         see("rejected by A alone", BY_A, true);
         see("rejected by Z alone", BY_Z, true);
         see("rejected by word 1 alone", BY_WORD_1, true);
         see("rejected by the cosh test alone", BY_COSH, true);
+        see("rejected by z1 alone", BY_Z1, true);
+        see("rejected by z1 alone, g = 0", BY_Z1, !r.minus);
+        see("rejected by z1 alone, g = 1", BY_Z1, r.minus);
         see("rejected by the cosh test alone, I above 0", BY_COSH, r.inner > 0);
         see("rejected by the cosh test alone, I below 0", BY_COSH, r.inner < 0);
         see("rejected by cosh sides of one high word alone", BY_COSH, r.cosh_in_one_high_word());
         see("rejected by e = 0 alone, word 2 = 0", BY_COSH, r.e2 == 0 && r.tested2 == 0);
         see("rejected by I = 1,986,526 alone, word 2 = 0", BY_COSH, r.inner.abs() == 1_986_526 && r.tested2 == 0);
+    }
+
+    /// Values of z1 at its limit, and of z2 above it, in a response that is accepted.
+    fn count_accepted_coefficients(&mut self, call: &Call, r: &Response) {
+        let (z1, z2) = r.halves();
+        let mut see = |case: &str, met: bool| self.see(format!("accepted, g = {}, {case}", u8::from(r.minus)), met && r.bit());
+        for (end, place) in [("first", 0), ("last", z1.len() - 1)] {
+            for sign in [1, -1] {
+                let (z1, z2) = (sign * z1[place], sign * z2[place]);
+                see(&format!("the {end} value of z1 at {}", sign * GREATEST_Z1), z1 == GREATEST_Z1);
+                see(&format!("the {end} value of z2 at {}", sign * (GREATEST_Z1 + 1)), z2 == GREATEST_Z1 + 1);
+                see(&format!("the {end} value of z2 beyond {}", sign * GREATEST_Y), z2 > GREATEST_Y);
+            }
+        }
+        see("y would not pass for z1", !passes(&call.y[..z1.len()]));
+        see("z1 would not pass by the other sign", !passes(&other_sign(&z1, &call.y)));
+    }
+
+    /// Where the values of z1 are that alone reject a response, and what would let it pass.
+    fn count_rejected_coefficients(&mut self, call: &Call, r: &Response) {
+        if r.tests() == BY_Z1 {
+            let (z1, z2) = r.halves();
+            let name = format!("rejected by z1 alone, g = {}", u8::from(r.minus));
+            self.count_places(&name, &z1, GREATEST_Z1);
+            self.see(format!("{name}, y would pass for it"), passes(&call.y[..z1.len()]));
+            self.see(format!("{name}, it would pass by the other sign"), passes(&other_sign(&z1, &call.y)));
+            self.see(format!("{name}, z2 would pass for it"), passes(&z2));
+        }
     }
 
     /// Words 1 and 2 on both sides of what decides, with each pair of top bits.
@@ -160,4 +194,23 @@ impl Response {
         let (left, right) = self.cosh_sides();
         left >> 64 == right >> 64
     }
+}
+
+impl Response {
+    /// z1 and z2.
+    fn halves(&self) -> (Vec<i32>, Vec<i32>) {
+        let z: Vec<i32> = self.z.iter().map(|&value| value as i32).collect();
+        let (z1, z2) = z.split_at(z.len() / 2);
+        (z1.to_vec(), z2.to_vec())
+    }
+}
+
+/// Whether these values pass as those of z1.
+fn passes(values: &[i32]) -> bool {
+    values.iter().all(|value| value.abs() <= GREATEST_Z1)
+}
+
+/// z1 by the other sign of the product. Both together are y twice.
+fn other_sign(z1: &[i32], y: &[i32]) -> Vec<i32> {
+    z1.iter().zip(y).map(|(z, y)| 2 * y - z).collect()
 }

@@ -12,8 +12,8 @@ use std::hash::{Hash, Hasher};
 use bliss_box::Kind;
 
 use crate::comparison::Comparison;
-use crate::coverage::{at_degree, at_every_degree, Coverage};
-use crate::model::respond::WORDS_ASKED;
+use crate::coverage::{at_degree, at_every_degree, Coverage, BY_Z1};
+use crate::model::respond::{self, WORDS_ASKED};
 use crate::random::Random;
 use crate::run;
 use history::{history, neighbours, Event, History, DIFFERENCES};
@@ -132,10 +132,17 @@ fn count_what_differs(coverage: &mut Coverage, steps: &[Step], others: &[Step]) 
                 coverage.see("equal histories, other words of a response", differ);
                 coverage.see("equal histories, other key", call.key != other.key);
                 coverage.see("equal histories, other noise", call.y != other.y);
+                let other_tests = is_rejected_by_z1(call) != is_rejected_by_z1(other);
+                coverage.see("equal histories, rejected by z1 alone and by other tests", other_tests);
             }
             _ => panic!("equal histories of calls of different kinds"),
         }
     }
+}
+
+/// Whether the values of z1 alone reject the response of a right call.
+fn is_rejected_by_z1(call: &respond::Call) -> bool {
+    respond::respond(call).response.is_some_and(|response| response.tests() == BY_Z1)
 }
 
 /// A list of calls, none of them refused, and what they gave.

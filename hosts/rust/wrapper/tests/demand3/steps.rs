@@ -3,6 +3,7 @@
 use super::history::{accepted, Event, History};
 use crate::archive;
 use crate::calls;
+use crate::calls::respond::{GREATEST_Y, GREATEST_Z1};
 use crate::model::draw::Attempt;
 use crate::model::{self, draw, respond, Session, POLYNOMIAL};
 use crate::random::Random;
@@ -49,11 +50,12 @@ pub fn calls_of(random: &mut Random, degree: usize, history: &History, refused: 
     let mut session = model::open(degree).1;
     let mut y = Vec::new();
     let mut steps = Vec::new();
-    for (_, event) in history {
+    for (at, (_, event)) in history.iter().enumerate() {
         add_refused(random, degree, refused, &mut steps);
         let call = match event {
             Event::Draw { bits } => {
-                let (call, drawn) = draw_of(random, session, bits);
+                let accepted_next = matches!(history.get(at + 1), Some((_, Event::Respond { bit: true, .. })));
+                let (call, drawn) = draw_of(random, session, bits, accepted_next);
                 (session, y) = (drawn.session, drawn.y);
                 Call::Draw(call)
             }
@@ -91,11 +93,22 @@ fn refused_call(random: &mut Random, degree: usize) -> Call {
     }
 }
 
-fn draw_of(random: &mut Random, session: Session, bits: &[bool]) -> (draw::Call, draw::Drawn) {
+/// A draw with these accept bits. Where a response is to be accepted next, the samples that come to z1 pass with a key of 0.
+fn draw_of(random: &mut Random, session: Session, bits: &[bool], accepted_next: bool) -> (draw::Call, draw::Drawn) {
     let degree = session.degree;
     let ordinary = degree > GREATEST_EDGE_DEGREE || random.one_in(3);
-    let cdt = if ordinary { bliss_box::CDT.to_vec() } else { calls::draw::cdt(random) };
-    let words: Vec<u64> = bits.iter().flat_map(|&bit| attempt_words(random, &cdt, ordinary, bit)).collect();
+    let mut cdt = if ordinary { bliss_box::CDT.to_vec() } else { calls::draw::cdt(random) };
+    if accepted_next && draw::threshold(&cdt, 8) == 0 {
+        // Its base samples are 9 and 10, and so its samples 2,304 or more.
+        cdt = bliss_box::CDT.to_vec();
+    }
+    let mut words = Vec::new();
+    let mut samples = 0;
+    for &bit in bits {
+        let greatest = if accepted_next && samples < degree { GREATEST_Z1 } else { GREATEST_Y };
+        words.extend(attempt_words(random, &cdt, ordinary, bit, greatest));
+        samples += usize::from(bit);
+    }
     let full = accepted(bits) == 2 * degree;
     let limit = if full { (bits.len() + random.below(2 * degree)).min(32 * degree) } else { bits.len() };
     let mut call =
@@ -108,10 +121,12 @@ fn draw_of(random: &mut Random, session: Session, bits: &[bool]) -> (draw::Call,
     (call, drawn)
 }
 
-fn attempt_words(random: &mut Random, cdt: &[u64], ordinary: bool, bit: bool) -> [u64; 4] {
+/// The words of an attempt with this accept bit, by which no greater sample is accepted than this.
+fn attempt_words(random: &mut Random, cdt: &[u64], ordinary: bool, bit: bool, greatest: i32) -> [u64; 4] {
     for _ in 0..TRIES {
         let words = if ordinary { [(); 4].map(|()| random.word()) } else { calls::draw::edge_words(random, cdt, 2) };
-        if Attempt::of(words, cdt).accepted() == bit {
+        let attempt = Attempt::of(words, cdt);
+        if attempt.accepted() == bit && (!bit || attempt.sample().abs() <= greatest) {
             return words;
         }
     }

@@ -50,7 +50,7 @@ impl Promise<'_> {
         let a = response.product_squares;
         assert!(a <= sum && sum <= PRODUCT_LIMIT, "{origin}: A is {a}, and the final sum {sum}");
         let [_, others @ ..] = response.tests();
-        assert_eq!(responded.answer.bit, others == [true; 3], "{origin}: the bit is not that of the tests beside A's");
+        assert_eq!(responded.answer.bit, others == [true; 4], "{origin}: the bit is not that of the tests beside A's");
         self.coverage.count_promise(call.n, sum, &response);
     }
 }

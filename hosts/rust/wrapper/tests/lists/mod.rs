@@ -29,6 +29,7 @@ pub fn lists_of_calls_are_the_models(comparison: &Comparison) {
     coverages.draws.require(at_every_degree(&["full", "spent"]));
     coverages.responses.require(RESPOND_REFUSALS.map(refused));
     coverages.responses.require(at_every_degree(&["accepted", "rejected"]));
+    coverages.responses.require(["rejected by z1 alone".into()]);
     coverages.steps.require(every_step());
 }
 

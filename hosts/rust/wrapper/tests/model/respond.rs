@@ -10,6 +10,9 @@ pub const PRODUCT_LIMIT: u128 = 46_225;
 /// The largest Z of a response that is not rejected.
 pub const RESPONSE_LIMIT: u128 = 165_688_384;
 
+/// The greatest size of a value of z1 in a response that is not rejected: document 02's.
+pub const COEFFICIENT_LIMIT: i128 = 2_100;
+
 /// The words that a response asks for.
 pub const WORDS_ASKED: usize = 3;
 
@@ -139,18 +142,24 @@ impl Response {
         Response { minus, z, product_squares, response_squares, inner, e1, e2, f, tested1, tested2 }
     }
 
-    /// The four tests of the bit, in document 01's order: A, Z, word 1 and the cosh test.
-    pub fn tests(&self) -> [bool; 4] {
+    /// z1: the first n values of z.
+    fn z1(&self) -> &[i128] {
+        &self.z[..self.z.len() / 2]
+    }
+
+    /// The five tests of the bit: document 01's four in its order, A, Z, word 1 and the cosh test, and document 02's of z1.
+    pub fn tests(&self) -> [bool; 5] {
         [
             self.product_squares <= PRODUCT_LIMIT,
             self.response_squares <= RESPONSE_LIMIT,
             self.tested1 < self.e1,
             self.tested2 * (ONE + self.f) < self.e2 * (1 << 63),
+            self.z1().iter().all(|value| (-COEFFICIENT_LIMIT..=COEFFICIENT_LIMIT).contains(value)),
         ]
     }
 
     pub fn bit(&self) -> bool {
-        self.tests() == [true; 4]
+        self.tests() == [true; 5]
     }
 }
 

@@ -1,9 +1,9 @@
 //! Single respond calls.
 
-use crate::calls::respond::{GREATEST_KEY, GREATEST_Y};
+use crate::calls::respond::{GREATEST_KEY, GREATEST_Y, GREATEST_Z1};
 use crate::calls::{self, places, DEGREES};
 use crate::comparison::Comparison;
-use crate::coverage::{at_every_degree, every_refusal, Coverage, RESPOND_REFUSALS};
+use crate::coverage::{at_every_degree, every_refusal, Coverage, BY_A, BY_COSH, BY_Z, BY_Z1, RESPOND_REFUSALS};
 use crate::model::respond::{list_asked, product, Call, Responded, Response, WORDS_ASKED};
 use crate::model::{Session, POLYNOMIAL};
 use crate::random::Random;
@@ -38,38 +38,72 @@ fn plain(degree: usize, key: Vec<i32>, y: Vec<i32>) -> Call {
     }
 }
 
-fn is_accepted(comparison: &Comparison, name: &str, call: &Call) -> bool {
-    let Responded { answer, z, .. } = comparison.respond(&name, call);
-    assert_eq!(answer.refusal, 0, "{name} is refused");
+const ACCEPTED: [bool; 5] = [true; 5];
+
+/// Which of its tests a response passes.
+fn tests(comparison: &Comparison, name: &str, call: &Call) -> [bool; 5] {
+    let Responded { answer, z, response, .. } = comparison.respond(&name, call);
+    let response = response.unwrap_or_else(|| panic!("{name} is refused"));
     assert!(answer.bit || z.iter().all(|&value| value == 0), "{name} leaves z");
-    answer.bit
+    response.tests()
 }
 
 /// Document 01's known points: A = 46,225 may pass, 46,226 never; Z = 165,688,384 may pass, 165,688,385 never; e = 0 passes no
 /// word 2.
 pub fn the_limits_of_a_response_are_the_models(comparison: &Comparison) {
-    let is_accepted = |name: &str, call: &Call| is_accepted(comparison, name, call);
+    let tests = |name: &str, key: &[i32], y: &[i32]| tests(comparison, name, &plain(512, key.to_vec(), y.to_vec()));
     let mut key = calls::respond::key_of_46_225();
-    let zero = vec![0; 1024];
-    assert!(is_accepted("A = 46,225", &plain(512, key.clone(), zero.clone())));
-    let multiple = key.iter().map(|value| 50 * value).collect();
-    assert!(!is_accepted("e = 0", &plain(512, key.clone(), multiple)));
+    let zero = [0; 1024];
+    assert_eq!(tests("A = 46,225", &key, &zero), ACCEPTED);
+    let multiple: Vec<i32> = key.iter().map(|value| 50 * value).collect();
+    assert_eq!(tests("e = 0", &key, &multiple), BY_COSH);
     *key.last_mut().unwrap() = -1;
-    assert!(!is_accepted("A = 46,226", &plain(512, key, zero.clone())));
+    assert_eq!(tests("A = 46,226", &key, &zero), BY_A);
 
+    // 37 × 2,100² + 1,586² + 54² + 8² + 2² + 2² = 165,688,384.
+    let in_z1 = halves(&[&[2100; 37][..], &[-1586, 54, -8, 2, -2]].concat(), &[]);
     // 20 × 2,815² + 2,684² + 5² + 1 + 1 + 1 = 165,688,384.
-    let mut y = vec![-2815; 20];
-    y.extend([2684, -5, 1, -1, 1]);
-    y.resize(1024, 0);
-    assert!(is_accepted("Z = 165,688,384", &plain(512, zero.clone(), y.clone())));
-    *y.last_mut().unwrap() = -1;
-    assert!(!is_accepted("Z = 165,688,385", &plain(512, zero.clone(), y)));
+    let in_z2 = halves(&[], &[&[-2815; 20][..], &[2684, -5, 1, -1, 1]].concat());
+    for (name, mut y) in [("in z1", in_z1), ("in z2", in_z2)] {
+        assert_eq!(tests(&format!("Z = 165,688,384, {name}"), &zero, &y), ACCEPTED);
+        *y.last_mut().unwrap() = -1;
+        assert_eq!(tests(&format!("Z = 165,688,385, {name}"), &zero, &y), BY_Z);
+    }
 
-    // 542 × 2,815² + 193² + 9² + 4² = 2^32.
-    let mut y = vec![2815; 542];
-    y.extend([193, 9, -4]);
-    y.resize(1024, 0);
-    assert!(!is_accepted("Z = 2^32", &plain(512, zero, y)));
+    // 53 × 2,100² + 2,008² + 45² + 2² + 1 + 1 + 1 + 512 × 2,815² = 2^32.
+    let y = halves(&[&[2100; 53][..], &[2008, 45, -2, 1, -1, 1]].concat(), &[2815; 512]);
+    assert_eq!(tests("Z = 2^32", &zero, &y), BY_Z);
+}
+
+/// Two halves of 512 values that begin with these, and go on with zeros.
+fn halves(first: &[i32], second: &[i32]) -> Vec<i32> {
+    [first, second].map(|half| [half, &vec![0; 512 - half.len()]].concat()).concat()
+}
+
+/// Document 02's known points: 2,100 and -2,100 may pass in z1, 2,101 and -2,101 never; 2,101 may pass in z2. Each is tried by both
+/// signs of the product, and with a y at the value, below it and above it.
+pub fn the_limits_of_z1_are_the_models(comparison: &Comparison) {
+    for n in DEGREES {
+        for place in places(n) {
+            for (word_0, part) in [(0, 0), (0, 7), (0, -7), (1, 0), (1, 7), (1, -7)] {
+                for value in [2100, -2100, 2101, -2101, GREATEST_Y + part, part - GREATEST_Y] {
+                    let name = format!("n = {n}, word 0 = {word_0}, z value {place} at {value}, {part} of it the product's");
+                    let call = with_one_value(n, place, value, part, word_0);
+                    let expected = if place < n && value.abs() > GREATEST_Z1 { BY_Z1 } else { ACCEPTED };
+                    assert_eq!(tests(comparison, &name, &call), expected, "{name}");
+                }
+            }
+        }
+    }
+}
+
+/// A call whose z is all zero but for one value, a part of which is the product's.
+fn with_one_value(n: usize, place: usize, value: i32, part: i32, word_0: u64) -> Call {
+    let mut call = plain(n, vec![0; 2 * n], vec![0; 2 * n]);
+    call.words[0] = word_0;
+    call.key[place] = if word_0 == 1 { -part } else { part };
+    call.y[place] = value - part;
+    call
 }
 
 /// The greatest keys, 64 positions and the greatest y, with the noise along the product: A, Z and I as great as they come.
@@ -102,7 +136,7 @@ fn along_the_product(n: usize, challenge: &[u32], key: i32, y: i32, word_0: u64)
 pub fn each_check_alone_is_the_models(comparison: &Comparison) {
     let mut random = Random::new(DEFAULT_SEED);
     for n in DEGREES {
-        let y: Vec<i32> = [2815, -2815, 0, 1, -1, 2, 215, -215].repeat(n / 4);
+        let y = [[0, 1, -1, 2], [2815, -2815, 215, -215]].map(|values| values.repeat(n / 4)).concat();
         let right = calls::respond::over(&mut random, n, &[1], &y);
         for (name, call) in spoilt_in_one_place(&right).into_iter().chain(with_wrong_challenges(&right)) {
             let responded = comparison.respond(&format!("n = {n}, {name}"), &call);

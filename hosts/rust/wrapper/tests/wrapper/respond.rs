@@ -1,7 +1,7 @@
 //! The response with memory that the host lends.
 
 use bliss_box::{challenge_limit, respond_list_length, sample_count};
-use bliss_box::{Outcome, Refusal, Responded, Session, POLYNOMIAL, RESPOND_WORDS};
+use bliss_box::{Outcome, Refusal, Responded, Session, COEFFICIENT_LIMIT, POLYNOMIAL, RESPOND_WORDS};
 
 use crate::draw::{draw, drawn_session};
 use crate::N;
@@ -43,6 +43,34 @@ fn a_rejected_response_leaves_nothing() {
     assert!(!rejected.session.is_drawn());
     assert_eq!((y, z), ([0; 8], [0; 8]));
     assert_eq!(list.last(), Some(&(9 << 24)));
+}
+
+/// Words and key are 0, so that z is y and passes the other tests.
+#[test]
+fn a_value_of_z1_above_its_limit_rejects_a_response() {
+    let respond = |place: usize, value: i32| {
+        let (mut y, mut z, mut list) = ([0; sample_count(N)], [5; sample_count(N)], [9; respond_list_length(N, 1)]);
+        y[place] = value;
+        let words = [0; RESPOND_WORDS];
+        let responded = drawn_session().respond(&[1], &POLYNOMIAL, &words, &[0; 8], &mut y, &mut z, &mut list);
+        let Outcome { bit, entries } = responded.answer.unwrap();
+        assert_eq!((entries, list.last()), (list.len(), Some(&((9 << 24) + u32::from(bit)))));
+        assert!(!responded.session.is_drawn());
+        assert_eq!(y, [0; 8]);
+        (bit, z)
+    };
+    let accepted = |place: usize, value: i32| {
+        let (bit, z) = respond(place, value);
+        bit && z[place] == value && z.iter().filter(|&&value| value == 0).count() == 7
+    };
+    for sign in [1, -1] {
+        let (limit, above) = (sign * COEFFICIENT_LIMIT, sign * (COEFFICIENT_LIMIT + 1));
+        for place in 0..N {
+            assert!(accepted(place, limit));
+            assert_eq!(respond(place, above), (false, [0; 8]));
+            assert!(accepted(N + place, above));
+        }
+    }
 }
 
 #[test]

@@ -81,6 +81,6 @@ fn is_length(n: usize, length: usize) -> bool {
 }
 
 /// Every value is looked at: without an early end, the compiler tests several at once.
-fn all_within(values: &[i32], bound: i32) -> bool {
+pub fn all_within(values: &[i32], bound: i32) -> bool {
     values.iter().fold(true, |within, value| within & (-bound..=bound).contains(value))
 }

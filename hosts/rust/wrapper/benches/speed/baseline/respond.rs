@@ -1,11 +1,11 @@
 //! The response.
 
-use bliss_box::{Kind, Outcome, Refusal, Session};
+use bliss_box::{Kind, Outcome, Refusal, Session, COEFFICIENT_LIMIT};
 
 use super::exponential::{exponential, LIMIT};
 use super::product::Product;
 use super::read_list::{entry, list_places, list_polynomial};
-use super::refusals::check_respond;
+use super::refusals::{all_within, check_respond};
 use super::words::low_62;
 
 /// The most that A may be.
@@ -14,11 +14,12 @@ const SQUARES_LIMIT: u64 = 46_225;
 /// The most that Z may be.
 const NORM_LIMIT: u64 = 165_688_384;
 
-/// The sums A, Z and I.
+/// The sums A, Z and I, and whether the values of z1 are within their limit.
 struct Measures {
     squares: u64,
     norm: u64,
     inner: i64,
+    within: bool,
 }
 
 /// Makes z the response to a challenge or all zero, and y all zero.
@@ -41,7 +42,8 @@ pub fn respond<P: Product>(
     let (products, rest) = list[1..].split_at_mut(reads);
     let squares = multiply(n, challenge, key, z, products);
     let (norm, inner) = add(words[0] & 1 == 1, y, z);
-    let bit = accepts::<P>(&Measures { squares, norm, inner }, polynomial, words);
+    let within = all_within(&z[..n], COEFFICIENT_LIMIT);
+    let bit = accepts::<P>(&Measures { squares, norm, inner, within }, polynomial, words);
     list_places(&mut rest[..3], Kind::Word, 0..);
     list_polynomial(&mut rest[3..24]);
     list_polynomial(&mut rest[24..45]);
@@ -92,6 +94,7 @@ fn accepts<P: Product>(measures: &Measures, polynomial: &[u64; 21], words: &[u64
     let e2 = exponential::<P>((2 * measures.inner.unsigned_abs()).min(LIMIT), polynomial);
     measures.squares <= SQUARES_LIMIT
         && measures.norm <= NORM_LIMIT
+        && measures.within
         && low_62(words[1]) < e1
         && passes_cosh::<P>(e2, low_62(words[2]))
 }
