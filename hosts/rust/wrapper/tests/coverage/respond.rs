@@ -194,9 +194,7 @@ impl Response {
         let (left, right) = self.cosh_sides();
         left >> 64 == right >> 64
     }
-}
 
-impl Response {
     /// z1 and z2.
     fn halves(&self) -> (Vec<i32>, Vec<i32>) {
         let z: Vec<i32> = self.z.iter().map(|&value| value as i32).collect();
