@@ -1,7 +1,7 @@
 #!/bin/sh
 # Shows that the comparison of calls with the model is no empty one: the model is made wrong in one place at a time, in a scratch
 # copy of the Rust hosts, and the comparison must fail. Each line says in what the wrong model was noticed to differ from the
-# archive. It takes about six minutes.
+# archive. It takes about seven minutes.
 #
 # usage: hosts/rust/wrapper/tests/wrong_models.sh
 set -eu
