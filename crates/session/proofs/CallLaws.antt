@@ -1,16 +1,19 @@
 -- What follows for every call, refused or served. Assumes nothing.
-use mathlib.Core.Path.{refl}
-use Prim.Native.Nat.{_*_}
+use mathlib.Core.Path.{_≡_, refl, sym, ap₂, _∙_}
+use mathlib.Core.Bool.{false}
+use mathlib.Core.List.{List, []}
+use Prim.Native.Nat.{ℕ, _*_}
 use native.Mathlib.Omega.{arith}
 use borrow.Author.Tests.{eqb-true, eq-eqb, ne-eqb}
 use Rattle.sampler.specs.Draw.{accepted, drawY, sampledBy}
 use Rattle.response.specs.Response.{respondedBy}
 use Rattle.response.proofs.RespondTells.{length-respondEntries}
 use Rattle.refusals.specs.Refusals.{openRefusal}
+use Rattle.session.specs.declared.Session.{Session}
 use Rattle.session.specs.Calls.{opened, bitsOfDraw, drawRefused, drawServed, drawLeft, bitOfRespond, respondRefused, respondServed}
-use Rattle.session.specs.Calls.{respondLeft}
+use Rattle.session.specs.Calls.{Respond, respondLeft}
 use Rattle.session.specs.CallLaws.{OpeningIsFresh, DrawCountsEntries, DrawKeepsDegree, RefusedDrawTouchesNothing, ServedDrawSetsDrawn}
-use Rattle.session.specs.CallLaws.{RespondCountsEntries, RespondKeepsDegree, RefusedRespondTouchesNothing, ServedRespondSpendsNoise}
+use Rattle.session.specs.CallLaws.{RespondCountsEntries, RespondKeepsDegree, RefusedRespondTouchesNothing, ServedRespondSpendsNoise, RejectionsAlike}
 use Rattle.session.proofs.Calls.{by-refusal, draw-left, draw-entries-few, draw-wrote, respond-left, respond-wrote}
 
 -- ** An opening
@@ -77,3 +80,18 @@ pub served-respond-spends-noise : ServedRespondSpendsNoise
 unfolding respondServed respondedBy
 served-respond-spends-noise s r h =
     rw (respond-left s r .where-served h) (record { not-drawn = refl; y = refl; z = λ e. rw e })
+
+-- a rejection, whatever z would have been
+rejected : (s : Session) (r : Respond) → respondLeft s r .responded .answer .refusal ≡ 0 → respondLeft s r .responded .answer .bit ≡ false
+    → respondLeft s r ≡ respondServed s (respondedBy (s .degree) false (r .challenge) [] (r .list))
+unfolding respondServed respondedBy
+rejected s r h b =
+    let left = respond-left s r .where-served h in
+    let bit : bitOfRespond s r ≡ false = rw left at b in
+    left ∙ rw bit
+
+pub rejections-alike : RejectionsAlike
+rejections-alike s r r′ h h′ b b′ challenges lists =
+    rejected s r h b
+    ∙ ap₂ (λ (c l : List ℕ). respondServed s (respondedBy (s .degree) false c [] l)) challenges lists
+    ∙ sym (rejected s r′ h′ b′)

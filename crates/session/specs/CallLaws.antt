@@ -97,3 +97,12 @@ abbrev pub ServedRespondSpendsNoise : Type 0
 ServedRespondSpendsNoise =
     (s : Session) (r : Respond) → let left = respondLeft s r in
     left .responded .answer .refusal ≡ 0 → NoiseSpent s left
+
+-- which test rejected it shows in nothing that it leaves: served, two responds of one session to one challenge, with their bits 0 and over
+-- the same list, leave the same, whatever else they were lent
+abbrev pub RejectionsAlike : Type 0
+RejectionsAlike =
+    (s : Session) (r r′ : Respond) → let left = respondLeft s r in let left′ = respondLeft s r′ in
+    left .responded .answer .refusal ≡ 0 → left′ .responded .answer .refusal ≡ 0 →
+    left .responded .answer .bit ≡ false → left′ .responded .answer .bit ≡ false →
+    r .challenge ≡ r′ .challenge → r .list ≡ r′ .list → left ≡ left′
