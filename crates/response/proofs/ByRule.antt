@@ -1,15 +1,15 @@
--- A response by the words of document 01. Assumes nothing.
-use mathlib.Core.Path.{_≡_, refl, sym, ap, _∙_}
-use mathlib.Core.Bool.{Bool, true, false, cond, _&&_, and-eq-true-iff}
-use mathlib.Core.List.{List, [], _∷_, _++_}
-use Prim.Native.Nat.{ℕ, zero, suc, _+_, _*_, _/_, _%_, _^_, _<_}
-use native.Mathlib.Nat.{le-of-suc-le-suc, not-suc-le-zero, suc-inj, mul-le-mul-right}
+-- A response by the words of document 01 and request S-2. Assumes nothing.
+use mathlib.Core.Path.{_≡_, refl, sym, _∙_}
+use mathlib.Core.Bool.{Bool, true, false, _&&_, and-eq-true-iff}
+use mathlib.Core.List.{List, _++_}
+use Prim.Native.Nat.{ℕ, _+_, _*_, _/_, _%_, _^_, _<_}
+use native.Mathlib.Nat.{mul-le-mul-right}
 use native.Mathlib.Numerals.{add-one}
 use native.Mathlib.Omega.{arith}
 use lib.Dec.{leb, ltb, eqb}
 use lib.ListN.{length, getD, List·getD-append}
 use lib.Seq.{drop-at, ext-getD}
-use lib.IntN.{ℤ, pos, negℤ, _+ℤ_}
+use lib.IntN.{ℤ, pos}
 use borrow.Author.Tests.{leb-true, le-leb, ltb-true, lt-ltb, eq-eqb, ne-eqb, eqb-true, eqb-false}
 use Rattle.arithmetic.specs.Words.{low62Of}
 use Rattle.read_list.specs.Entries.{placesUp}
@@ -20,35 +20,21 @@ use Rattle.challenge_product.specs.InOrder.{HalvesListed}
 use Rattle.challenge_product.proofs.ProductSizes.{length-productEntries}
 use Rattle.challenge_product.proofs.InOrder.{product-listed}
 use Rattle.acceptance.specs.Acceptance.{firstExponent, secondExponent, coshPasses, allPass, acceptsBy, acceptanceEntries}
-use Rattle.response.specs.Response.{responseOf, responseZ, isBounded, measuresOf, responseBit, respondEntries}
+use Rattle.response.specs.Response.{responseZ, isBounded, measuresOf, responseBit, respondEntries}
 use Rattle.response.specs.ByRule.{PlusOrMinus, ResponsePlusOrMinus, BitByTests, RespondLists}
+use Rattle.response.proofs.Passes.{length-response, response-at}
 use Rattle.response.proofs.RespondTells.{length-respondEntries}
 
 -- ** z
-
-module _ (g : Bool) where
-  as-long : (y sc : List ℤ) → length sc ≡ length y → length (responseOf g y sc) ≡ length y
-  unfolding responseOf
-  as-long [] sc l = refl
-  as-long (v ∷ y) [] l = l
-  as-long (v ∷ y) (c ∷ sc) l = ap suc (as-long y sc (suc-inj l))
-
-  value-at : (y sc : List ℤ) → length sc ≡ length y → (i : ℕ) → i < length y
-      → getD (responseOf g y sc) i (pos 0) ≡ getD y i (pos 0) +ℤ cond g (negℤ (getD sc i (pos 0))) (getD sc i (pos 0))
-  unfolding responseOf
-  value-at [] sc l i h = absurd (not-suc-le-zero h)
-  value-at (v ∷ y) [] l i h = absurd (omega arith)
-  value-at (v ∷ y) (c ∷ sc) l zero h = refl
-  value-at (v ∷ y) (c ∷ sc) l (suc i) h = value-at y sc (suc-inj l) i (le-of-suc-le-suc h)
 
 pub response-plus-or-minus : ResponsePlusOrMinus
 unfolding responseZ
 response-plus-or-minus y sc words l =
     let first = getD words 0 0 in
     record {
-      as-long = as-long (eqb (first % 2) 1) y sc l;
-      plus = λ e i h. rw (ne-eqb (first % 2) 1 (λ g. omega arith)) (value-at false y sc l i h);
-      minus = λ e i h. rw (eq-eqb (first % 2) 1 e) (value-at true y sc l i h);
+      as-long = length-response (eqb (first % 2) 1) y sc (sym l) ∙ l;
+      plus = λ e i h. rw (ne-eqb (first % 2) 1 (λ g. omega arith)) (response-at false y sc i h (omega arith));
+      minus = λ e i h. rw (eq-eqb (first % 2) 1 e) (response-at true y sc i h (omega arith));
     }
 
 -- there is one such z

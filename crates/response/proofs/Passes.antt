@@ -1,12 +1,12 @@
 -- Laws of the response: its values and bounds, and one place more. Assumes nothing.
-use mathlib.Core.Path.{_≡_, refl, sym, ap, _∙_}
+use mathlib.Core.Path.{_≡_, refl, sym, ap, ap₂, _∙_}
 use mathlib.Core.Bool.{Bool, true, false, cond}
 use mathlib.Core.List.{List, [], _∷_, _++_, append-nil}
 use Prim.Native.Nat.{ℕ, zero, suc, _+_, _*_, _≤_, _<_}
 use native.Mathlib.Nat.{mul-le-mul, not-suc-le-zero, le-of-suc-le-suc}
 use native.Mathlib.Numerals.{add-one}
 use native.Mathlib.Omega.{arith}
-use lib.ListN.{length, getD, set, take, drop, length-set}
+use lib.ListN.{length, getD, set, take, drop, replicate, length-set}
 use lib.Seq.{take-suc, take-all, drop-cons, drop-length, append-snoc, set-at, getD-at, length-take-le}
 use lib.IntN.{ℤ, pos, negℤ, natAbs, _+ℤ_, _*ℤ_, +ℤ-idl, +ℤ-idr, +ℤ-assoc}
 use Rattle.signed.specs.Vectors.{allWithin, squareSum, innerProduct}
@@ -31,6 +31,14 @@ response-at g [] sc i h l = absurd (not-suc-le-zero h)
 response-at g (v ∷ y) [] i h l = absurd (not-suc-le-zero l)
 response-at g (v ∷ y) (c ∷ sc) zero h l = refl
 response-at g (v ∷ y) (c ∷ sc) (suc i) h l = response-at g y sc i (le-of-suc-le-suc h) (le-of-suc-le-suc l)
+
+-- where the product is zero, it is y
+pub response-of-none : (g : Bool) (y : List ℤ) (n : ℕ) → length y ≡ n → responseOf g y (replicate n (pos 0)) ≡ y
+unfolding responseOf
+response-of-none g [] n l = refl
+response-of-none g (v ∷ y) zero l = absurd (omega arith)
+response-of-none true (v ∷ y) (suc n) l = ap₂ _∷_ (+ℤ-idr v) (response-of-none true y n (omega arith))
+response-of-none false (v ∷ y) (suc n) l = ap₂ _∷_ (+ℤ-idr v) (response-of-none false y n (omega arith))
 
 abs-turned : (g : Bool) (c : ℤ) → natAbs (cond g (negℤ c) c) ≡ natAbs c
 abs-turned true c = abs-neg c

@@ -4,11 +4,12 @@ use mathlib.Core.Bool.{true, and-eq-true-iff}
 use mathlib.Core.List.{List, [], _∷_, _++_}
 use mathlib.Core.Logic.{_↔_}
 use Prim.Native.Nat.{ℕ, zero, suc, _+_, _*_, _≤_, _<_}
-use native.Mathlib.Nat.{mul-le-mul, suc-inj, le-of-suc-le-suc, not-suc-le-zero}
+use native.Mathlib.Nat.{mul-le-mul, suc-inj}
 use native.Mathlib.Omega.{arith}
 use lib.Dec.{leb}
 use lib.IntN.{ℤ, pos, natAbs, _+ℤ_, _*ℤ_, +ℤ-idl, +ℤ-idr, +ℤ-assoc}
 use lib.ListN.{length, getD, take}
+use lib.Seq.{getD-take}
 use borrow.Author.Tests.{leb-true, le-leb}
 use Rattle.signed.specs.Vectors.{allWithin, squareSum, innerProduct, SquaresByOneMore, ProductsByOneMore}
 use Rattle.signed.proofs.Signs.{abs-add, abs-mul}
@@ -41,14 +42,8 @@ within-at bound (v ∷ values) h (suc i) = within-at bound values (within-parts 
 -- the first n values are, exactly when each of them is
 pub first-within : (bound n : ℕ) (values : List ℤ)
     → (allWithin bound (take n values) ≡ true) ↔ ((i : ℕ) → i < n → natAbs (getD values i (pos 0)) ≤ bound)
-first-within bound n values = (each n values, all n values)
+first-within bound n values = (λ h i g. rw (getD-take n values i (pos 0) g) at (within-at bound (take n values) h i), all n values)
   where
-    each : (n : ℕ) (values : List ℤ) → allWithin bound (take n values) ≡ true → (i : ℕ) → i < n → natAbs (getD values i (pos 0)) ≤ bound
-    each zero values h i g = absurd (not-suc-le-zero g)
-    each (suc n) [] h i g = omega arith
-    each (suc n) (v ∷ values) h zero g = within-parts bound v (take n values) h .0
-    each (suc n) (v ∷ values) h (suc i) g = each n values (within-parts bound v (take n values) h .1) i (le-of-suc-le-suc g)
-
     all : (n : ℕ) (values : List ℤ) → ((i : ℕ) → i < n → natAbs (getD values i (pos 0)) ≤ bound) → allWithin bound (take n values) ≡ true
     all zero values h = within-none bound
     all (suc n) [] h = within-none bound
