@@ -20,7 +20,7 @@ use Rattle.challenge_product.specs.InOrder.{HalvesListed}
 use Rattle.challenge_product.proofs.ProductSizes.{length-productEntries}
 use Rattle.challenge_product.proofs.InOrder.{product-listed}
 use Rattle.acceptance.specs.Acceptance.{firstExponent, secondExponent, coshPasses, allPass, acceptsBy, acceptanceEntries}
-use Rattle.response.specs.Response.{responseZ, isBounded, measuresOf, responseBit, respondEntries}
+use Rattle.response.specs.Response.{subtracts, responseZ, isBounded, measuresOf, responseBit, respondEntries}
 use Rattle.response.specs.ByRule.{PlusOrMinus, ResponsePlusOrMinus, BitByTests, RespondLists}
 use Rattle.response.proofs.Passes.{length-response, response-at}
 use Rattle.response.proofs.RespondTells.{length-respondEntries}
@@ -32,7 +32,7 @@ unfolding responseZ
 response-plus-or-minus y sc words l =
     let first = getD words 0 0 in
     record {
-      as-long = length-response (eqb (first % 2) 1) y sc (sym l) ∙ l;
+      as-long = length-response (subtracts first) y sc (sym l) ∙ l;
       plus = λ e i h. rw (ne-eqb (first % 2) 1 (λ g. omega arith)) (response-at false y sc i h (omega arith));
       minus = λ e i h. rw (eq-eqb (first % 2) 1 e) (response-at true y sc i h (omega arith));
     }
