@@ -14,10 +14,6 @@ unfolding itemsAt
 length-items item next at zero = refl
 length-items item next at (suc count) = ap suc (length-items item next (next at) count)
 
--- what is written to the start of a list stands there
-pub take-written : {A : Type 0} (list es : List A) (count : ℕ) → length es ≡ count → count ≤ length list → take count (sets list 0 es) ≡ es
-take-written list es count e h = rw (← e, sets-eq es list 0 (omega (arith, e, h))) (take-append-seam es (drop (0 + length es) list))
-
 -- what is left of a count
 pub none-left : {i count : ℕ} → count ≤ i → count - i ≡ 0
 none-left h = omega arith

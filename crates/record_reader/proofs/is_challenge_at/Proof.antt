@@ -8,9 +8,10 @@ use Prim.Native.Nat.{ℕ, _+_, _≤_, _<_}
 use borrow.Author.Tests.{lt-leb}
 use lib.Dec.{ltb}
 use lib.ListN.{length, take, replicate}
-use lib.Seq.{length-sets, length-take-le}
+use lib.Seq.{sets, length-sets, length-take-le}
 use Rattle.bits.specs.Bits.{number, bitAt}
-use Rattle.bits.proofs.Walking.{length-items, take-written}
+use Rattle.bits.proofs.Walking.{length-items}
+use Rattle.lists.proofs.AtTheStart.{take-written}
 use Rattle.challenge.specs.Challenge.{isChallenge, arePositions}
 use Rattle.record.specs.Reading.{positionsAt, challengeAt}
 use Rattle.record_reader.proofs.is_challenge_at.Statement.{statement}
@@ -23,6 +24,13 @@ too-many n challenge h = rw (lt-leb (length challenge) 64 h) (and-false (ltb 0 (
 length-positions : (s : ℕ → Bool) (at count : ℕ) → length (positionsAt s at count) ≡ count
 unfolding positionsAt
 length-positions s at count = length-items (λ (i : ℕ). number s i 16) (λ (i : ℕ). i + 16) at count
+
+-- the positions that the array holds
+taken : (s : ℕ → Bool) (count : ℕ) → count ≤ 64 → take count (sets (replicate 64 0) 0 (positionsAt s 32 count)) ≡ positionsAt s 32 count
+taken s count h =
+    let e = length-positions s 32 count in
+    ap (λ (k : ℕ). take k (sets (replicate 64 0) 0 (positionsAt s 32 count))) (sym e)
+    ∙ take-written (replicate 64 0) (positionsAt s 32 count) (omega (arith, e))
 
 -- ** The states: behind the positions, behind the count, and the start
 
@@ -76,9 +84,7 @@ returns-2 c =
     let s = bitAt (a .bytes .now) in
     c .is-challenge .ensures
     ∙ ap (isChallenge (a .n))
-    (ap (take (r .result)) (g .get-positions .ensures)
-    ∙ take-written (replicate 64 0) (positionsAt s 32 (r .result)) (r .result) (length-positions s 32 (r .result)) (omega arith)
-    ∙ ap (positionsAt s 32) (r .ensures))
+    (ap (take (r .result)) (g .get-positions .ensures) ∙ taken s (r .result) (omega arith) ∙ ap (positionsAt s 32) (r .ensures))
 
 pub is-challenge-at-spec : {M : Type 1} → statement M
 is-challenge-at-spec =
