@@ -5,8 +5,8 @@ use mathlib.Core.List.{List}
 use Prim.Native.Nat.{ℕ, zero, suc, _+_, _-_, _≤_, _<_}
 use native.Mathlib.Numerals.{add-one}
 use native.Mathlib.Omega.{arith}
-use lib.ListN.{length, take, drop, set, length-set}
-use lib.Seq.{sets, sets-eq, take-append-seam}
+use lib.ListN.{length, set, length-set}
+use lib.Seq.{sets}
 use Rattle.bits.specs.Items.{itemsAt, behind, eachAt}
 
 pub length-items : {A : Type 0} (item : ℕ → A) (next : ℕ → ℕ) (at count : ℕ) → length (itemsAt item next at count) ≡ count

@@ -21,12 +21,12 @@ use Rattle.record.proofs.FieldSets.{length-fields}
 use Rattle.record.proofs.OneForOne.{round-trip, just-one-record, just-one-field-set, records-alone}
 use Rattle.record_reader.specs.Call.{mapOf, contentsOf, noContents, haveRoom, ReadLeft, afterRead, readServed, handedOver, readLeft}
 use Rattle.record_reader.proofs.ReadLaws.{fits}
-use Rattle.record_reader.specs.FirstRefusal.{NoRecord, Short, NoRoom, ReadRefuses, ReadRefusesFirst, Handed, Gives, ReadsTheFields, RefusedReadLeaves}
+use Rattle.record_reader.specs.FirstRefusal.{NoRecord, Short, NoRoom, ReadRefuses, ReadRefusesFirst, Handed, ReadsTheFields, RefusedReadLeaves}
 
 -- ** The refusal
 
 -- the room of a field set is too little exactly where a field is longer than its output
-fails-short : (f : FieldSet) (challenge z1 z2 : ℕ) → FailsWhere (haveRoom (contentsOf f) challenge z1 z2) (Short f challenge z1 z2)
+pub fails-short : (f : FieldSet) (challenge z1 z2 : ℕ) → FailsWhere (haveRoom (contentsOf f) challenge z1 z2) (Short f challenge z1 z2)
 unfolding contentsOf
 fails-short f challenge z1 z2 =
     fails-either (fails-above (length (itemsOf (f .challenge))) challenge)
@@ -68,6 +68,49 @@ pub read-of-record : (f : FieldSet) (challenge : List ℕ) (z1 z2 : List ℤ) �
     → readLeft (recordOf f) challenge z1 z2 ≡ handedOver (some f) challenge z1 z2
 read-of-record f challenge z1 z2 h = ap (λ (set : Option FieldSet). handedOver set challenge z1 z2) (round-trip f h)
 
+pub with-room : (f : FieldSet) (challenge : List ℕ) (z1 z2 : List ℤ) → haveRoom (contentsOf f) (length challenge) (length z1) (length z2) ≡ true
+    → handedOver (some f) challenge z1 z2 ≡ readServed f challenge z1 z2
+unfolding handedOver
+with-room f challenge z1 z2 e = rw e
+
+room-by : (f : FieldSet) (challenge : List ℕ) (z1 z2 : List ℤ) (room : Bool)
+    → cond room (readServed f challenge z1 z2) (afterRead (noContents 14) challenge z1 z2) .contents .refusal ≡ 0 → room ≡ true
+unfolding noContents
+room-by f challenge z1 z2 true h = refl
+room-by f challenge z1 z2 false h = absurd (omega (arith, h))
+
+served-room : (f : FieldSet) (challenge : List ℕ) (z1 z2 : List ℤ) → handedOver (some f) challenge z1 z2 .contents .refusal ≡ 0
+    → haveRoom (contentsOf f) (length challenge) (length z1) (length z2) ≡ true
+unfolding handedOver
+served-room f challenge z1 z2 h = room-by f challenge z1 z2 (haveRoom (contentsOf f) (length challenge) (length z1) (length z2)) h
+
+-- what is known of a read that is not refused
+pub record ReadServed (bytes challenge : List ℕ) (z1 z2 : List ℤ) : Type 0 where
+  pub set : FieldSet
+  pub storable : isFieldSet set ≡ true
+  pub stored : recordOf set ≡ bytes
+  pub room : haveRoom (contentsOf set) (length challenge) (length z1) (length z2) ≡ true
+  pub left-is : readLeft bytes challenge z1 z2 ≡ readServed set challenge z1 z2
+
+served-set : (bytes challenge : List ℕ) (z1 z2 : List ℤ) → AreBytes bytes → (set : Option FieldSet) → fieldSetOf bytes ≡ set
+    → handedOver set challenge z1 z2 .contents .refusal ≡ 0 → ReadServed bytes challenge z1 z2
+unfolding handedOver noContents
+served-set bytes challenge z1 z2 small none e h = absurd (omega (arith, h))
+served-set bytes challenge z1 z2 small (some f) e h =
+    let t = just-one-record bytes f small e in
+    let r = served-room f challenge z1 z2 h in
+    record {
+      set = f;
+      storable = t .0;
+      stored = t .1;
+      room = r;
+      left-is = ap (λ (set : Option FieldSet). handedOver set challenge z1 z2) e ∙ with-room f challenge z1 z2 r;
+    }
+
+pub read-served : (bytes challenge : List ℕ) (z1 z2 : List ℤ) → AreBytes bytes → readLeft bytes challenge z1 z2 .contents .refusal ≡ 0
+    → ReadServed bytes challenge z1 z2
+read-served bytes challenge z1 z2 small h = served-set bytes challenge z1 z2 small (fieldSetOf bytes) refl h
+
 -- the map is the first byte
 first-byte : (f : FieldSet) → mapOf f ≡ getD (recordOf f) 0 0
 unfolding recordOf packed fieldBits mapBits number
@@ -79,26 +122,19 @@ unfolding Handed itemsOf
 handed none before h = (refl, refl)
 handed (some items) before h = (written before items h, refl)
 
-given-room : (f : FieldSet) (challenge : List ℕ) (z1 z2 : List ℤ) (room : Bool) → haveRoom (contentsOf f) (length challenge) (length z1) (length z2) ≡ room
-    → let left = cond room (readServed f challenge z1 z2) (afterRead (noContents 14) challenge z1 z2) in
-    left .contents .refusal ≡ 0 → Gives f challenge z1 z2 left
-unfolding contentsOf noContents
-given-room f challenge z1 z2 true e h =
-    let r = fits (contentsOf f) (length challenge) (length z1) (length z2) e in
-    record {
+pub reads-the-fields : ReadsTheFields
+unfolding contentsOf
+reads-the-fields f challenge z1 z2 h e =
+    let same = read-of-record f challenge z1 z2 h in
+    let served = served-room f challenge z1 z2 (ap (λ (left : ReadLeft). left .contents .refusal) (sym same) ∙ e) in
+    let r = fits (contentsOf f) (length challenge) (length z1) (length z2) served in
+    rw (same ∙ with-room f challenge z1 z2 served) (record {
       degree = refl;
       map = first-byte f;
       to-challenge = handed (f .challenge) challenge (r .0);
       to-z1 = handed (f .z1) z1 (r .1);
       to-z2 = handed (f .z2) z2 (r .2);
-    }
-given-room f challenge z1 z2 false e h = absurd (omega (arith, h))
-
-pub reads-the-fields : ReadsTheFields
-unfolding handedOver
-reads-the-fields f challenge z1 z2 h e =
-    let same = read-of-record f challenge z1 z2 h in
-    rw same (given-room f challenge z1 z2 _ refl (ap (λ (left : ReadLeft). left .contents .refusal) (sym same) ∙ e))
+    })
 
 -- a refusal leaves all
 refused-room : (f : FieldSet) (challenge : List ℕ) (z1 z2 : List ℤ) (room : Bool)

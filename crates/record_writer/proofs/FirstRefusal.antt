@@ -1,15 +1,14 @@
 -- The refusal of a write is the first that applies, and what it leaves is the record or nothing. Assumes nothing.
-use mathlib.Core.Path.{_≡_, refl, sym, ap, ap₂, _∙_}
+use mathlib.Core.Path.{_≡_, refl, sym, ap, _∙_}
 use mathlib.Core.Bool.{Bool, true, false, cond, false≢true}
 use mathlib.Core.List.{List}
 use mathlib.Core.Logic.{_≢_}
-use Prim.Native.Nat.{ℕ, _≤_}
-use borrow.Author.Tests.{eq-eqb, ne-eqb, eqb-true, leb-true}
-use lib.Dec.{leb, eqb}
+use Prim.Native.Nat.{ℕ}
+use borrow.Author.Tests.{eq-eqb, ne-eqb, eqb-true}
+use lib.Dec.{eqb}
 use lib.IntN.{ℤ}
 use lib.ListN.{length}
 use Rattle.bits.specs.Items.{given, passes}
-use Rattle.checks.specs.Checks.{firstRefusal}
 use Rattle.checks.proofs.RefusalTable.{FailsWhere, refuses, serves, fails-no-degree, fails-unequal, fails-either, fails-above}
 use Rattle.refusals.specs.FirstRefusal.{Outside}
 use Rattle.refusals.proofs.FirstRefusal.{fails-no-challenge, fails-outside}
@@ -23,7 +22,7 @@ use Rattle.record_writer.specs.FirstRefusal.{OfTold, WriteRefusesFirst, 
 -- ** The refusal
 
 -- the number that is answered
-refusal-is : (f : FieldSet) (out : List ℕ) → writeLeft f out .written .refusal ≡ writeRefusal f (length out)
+pub refusal-is : (f : FieldSet) (out : List ℕ) → writeLeft f out .written .refusal ≡ writeRefusal f (length out)
 unfolding writeLeft
 refusal-is f out = by (writeRefusal f (length out)) (eqb (writeRefusal f (length out)) 0) refl
   where
