@@ -55,6 +55,11 @@ module _ (s : ℕ → Bool) where
       rw (add-suc a b, pow-suc 2 b, add-assoc at a b)
       (omega (arith, number-split at a b))
 
+  -- in two halves, as code works it out
+  pub number-halves : (at w : ℕ) {end high low : ℕ} → high ≡ number s at w → low ≡ number s end w → end ≡ at + w
+      → 2 ^ w * high + low ≡ number s at (w + w)
+  number-halves at w e f g = rw (e, f, g, number-split at w w) (omega arith)
+
   -- the first bit, and the number of the others
   pub number-first : (at w : ℕ) → number s at (suc w) ≡ boolByte (s at) * 2 ^ w + number s (suc at) w
   unfolding number

@@ -10,7 +10,7 @@ use borrow.Author.Tests.{ltb-true, ltb-false}
 use lib.ListN.{length, getD, List·getD-eq-default}
 use lib.Seq.{ext-getD}
 use Rattle.bits.specs.Bits.{odd, number, bitAt, streamOf, bytesFor, bytesFrom, packed}
-use Rattle.bits.proofs.Numbers.{number-below, number-split, number-bit, number-same, number-zero, zero-number}
+use Rattle.bits.proofs.Numbers.{number-below, number-halves, number-split, number-bit, number-same, number-zero, zero-number}
 use Rattle.bits.proofs.Streams.{Holds, holds-at, holds-of, holds-digits, number-holds}
 
 -- ** Bytes of a stream
@@ -76,6 +76,12 @@ byte-number bytes k small = number-holds (bitAt bytes) (8 * k) 8 (getD bytes k 0
         let q : (8 * k + i) / 8 ≡ k = omega (arith, e) in
         let m : 7 - (8 * k + i) % 8 ≡ r = omega (arith, e) in
         ap₂ (λ (b s : ℕ). odd (getD bytes b 0 / 2 ^ s)) q m
+
+-- two bytes, as code works them out
+pub two-numbers : (bytes : List ℕ) (k : ℕ) → getD bytes k 0 < 256 → getD bytes (k + 1) 0 < 256
+    → 256 * getD bytes k 0 + getD bytes (k + 1) 0 ≡ number (bitAt bytes) (8 * k) 16
+two-numbers bytes k h g =
+    number-halves (bitAt bytes) (8 * k) 8 (sym (byte-number bytes k h)) (sym (byte-number bytes (k + 1) g)) (omega arith)
 
 -- a byte more
 pub byte-more : (bytes : List ℕ) (k i : ℕ) → getD bytes (k + i) 0 < 256

@@ -27,21 +27,30 @@ fn byte_at(bytes: &[u8], k: usize) -> u8
     bytes[k]
 }
 
-// The number of eight bytes from byte k on, all of which are there. The compiler makes one load of it.
+// The number of two bytes from byte k on, all of which are there; and of four and eight. By halves, and not byte by byte: so the compiler
+// makes one load of eight.
+fn two_bytes(bytes: &[u8], k: usize) -> u64
+    requires { ⌜ k + 2 ≤ length (now bytes) ⌝ }
+    ensures { λ r. ⌜ r ≡ number (bitAt (now (bytes .entry))) (8 * k) 16 ⌝ }
+{
+    256 * (bytes[k] as u64) + bytes[k + 1] as u64
+}
+
+fn four_bytes(bytes: &[u8], k: usize) -> u64
+    requires { ⌜ k + 4 ≤ length (now bytes) ⌝ }
+    ensures { λ r. ⌜ r ≡ number (bitAt (now (bytes .entry))) (8 * k) 32 ⌝ }
+{
+    65536 * two_bytes(bytes, k) + two_bytes(bytes, k + 2)
+}
+
 fn eight_bytes(bytes: &[u8], k: usize) -> u64
     requires { ⌜ k + 8 ≤ length (now bytes) ⌝ }
     ensures { λ r. ⌜ r ≡ number (bitAt (now (bytes .entry))) (8 * k) 64 ⌝ }
 {
-    let mut x: u64 = 0;
-    let mut i: usize = 0;
-    while i < 8 {
-        x = 256 * x + bytes[k + i] as u64;
-        i += 1;
-    }
-    x
+    4294967296 * four_bytes(bytes, k) + four_bytes(bytes, k + 4)
 }
 
-// The same, where some of them may be behind the bytes.
+// Eight bytes too, where some of them may be behind the bytes.
 fn eight_bytes_or_zeros(bytes: &[u8], k: usize) -> u64
     requires { ⌜ k < 2 ^ 32 ⌝ }
     ensures { λ r. ⌜ r ≡ number (bitAt (now (bytes .entry))) (8 * k) 64 ⌝ }

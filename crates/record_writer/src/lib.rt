@@ -38,7 +38,10 @@ fn size_of(value: i32) -> u32
     requires { ⌜ natAbs value ≤ valueLimit ⌝ }
     ensures { λ r. ⌜ r ≡ natAbs value ⌝ }
 {
-    signed::size_of(value as i64) as u32
+    if value < 0 {
+        return (0 - value) as u32;
+    }
+    value as u32
 }
 
 // How many bits values take.

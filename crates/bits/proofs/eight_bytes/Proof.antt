@@ -1,75 +1,44 @@
--- `bits::eight_bytes` meets its contract: after i turns i bytes are gathered. Assumes nothing.
-use mathlib.Core.Path.{refl}
-use Prim.Native.Nat.{_+_, _-_, _^_, _<_}
-use lib.ListN.{getD}
+-- `bits::eight_bytes` meets its contract: of two halves. Assumes nothing.
+use borrow.Author.Needs.{needs}
+use Prim.Native.Nat.{_+_, _*_}
 use native.Mathlib.Omega.{arith}
-use Rattle.bits.proofs.Gathering.{Gathered, gather-start, gather-room, gather-step, gather-end}
+use Rattle.bits.specs.Bits.{bitAt}
+use Rattle.bits.proofs.Numbers.{number-below, number-halves}
 use Rattle.bits.proofs.eight_bytes.Statement.{statement}
 use Rattle.bits.proofs.eight_bytes.Tie as tie
 
-abbrev Inv-loop : tie.InvT-loop
-Inv-loop bytes k x₀ i₀ x i = Gathered bytes k x i
+four-bytes-requires : tie.Need-four-bytes-requires
+four-bytes-requires c κs = search needs
 
-abbrev μ-loop : tie.MeasureT-loop
-μ-loop bytes k x₀ i₀ x i = 8 - i
+mul-result : tie.Need-mul-result
+mul-result c = let a = c .before .before .args in omega (arith, c .four-bytes .ensures, number-below (bitAt (a .bytes .now)) (8 * a .k) 32)
 
-loop-holds : tie.Need-loop-holds Inv-loop μ-loop
-loop-holds c = gather-start (c .args .bytes .now) (c .args .k)
+add-four-bytes : tie.Need-add-four-bytes
+add-four-bytes c = search needs
 
-mul-x : tie.Need-mul-x Inv-loop μ-loop
-mul-x c = let g = gather-room (c .before .before .args .bytes .now) (c .before .before .args .k) (c .before .loop .inv) (omega arith) in omega arith
+four-bytes-requires-2 : tie.Need-four-bytes-requires-2
+four-bytes-requires-2 c κs = search needs
 
-add-x : tie.Need-add-x Inv-loop μ-loop
-add-x c = omega arith
+add-result : tie.Need-add-result
+add-result c =
+    let a = c .before .before .before .args in
+    let s = bitAt (a .bytes .now) in
+    let high = number-below s (8 * a .k) 32 in
+    let low = number-below s (8 * (a .k + 4)) 32 in
+    omega (arith, c .before .four-bytes .ensures, c .four-bytes2 .ensures, high, low)
 
--- ** The states: the start, the head of the loop; and the byte that is read
-
-abbrev turn : tie.After-shared-slice-known Inv-loop μ-loop → tie.At-loop Inv-loop μ-loop
-turn c = c .before .before
-
-abbrev start : tie.After-shared-slice-known Inv-loop μ-loop → tie.Start Inv-loop μ-loop
-start c = turn c .before
-
-byte : (c : tie.After-shared-slice-known Inv-loop μ-loop) → getD (start c .args .bytes .now) (start c .args .k + turn c .loop .i) 0 < 256
-byte c = omega (arith, c .shared-slice-known .given (start c .args .k + turn c .loop .i))
-
-room : (c : tie.After-shared-slice-known Inv-loop μ-loop) → turn c .loop .x < 2 ^ 56
-room c = gather-room (start c .args .bytes .now) (start c .args .k) (turn c .loop .inv) (omega arith)
-
-shared-slice-read-x : tie.Need-shared-slice-read-x Inv-loop μ-loop
-shared-slice-read-x c = omega (arith, turn c .loop .inv .within)
-
-cast-x : tie.Need-cast-x Inv-loop μ-loop
-cast-x c = omega (arith, byte c)
-
-add-x-2 : tie.Need-add-x-2 Inv-loop μ-loop
-add-x-2 c = omega (arith, room c, byte c)
-
-add-i : tie.Need-add-i Inv-loop μ-loop
-add-i c = omega (arith, turn c .loop .inv .within)
-
-loop-less : tie.Need-loop-less Inv-loop μ-loop
-loop-less c = omega (arith, turn c .loop .inv .within)
-
-loop-again : tie.Need-loop-again Inv-loop μ-loop
-loop-again c = gather-step (start c .args .bytes .now) (start c .args .k) (turn c .loop .inv) (omega arith) (byte c) refl
-
-returns : tie.Need-returns Inv-loop μ-loop
-returns c = gather-end (c .before .before .args .bytes .now) (c .before .before .args .k) (c .before .loop .inv) (omega arith)
+returns : tie.Need-returns
+returns c =
+    let a = c .before .before .before .args in
+    number-halves (bitAt (a .bytes .now)) (8 * a .k) 32 (c .before .four-bytes .ensures) (c .four-bytes2 .ensures) (omega arith)
 
 pub eight-bytes-spec : {M : Type 1} → statement M
 eight-bytes-spec =
     tie.close
     (tie.spec
-    Inv-loop
-    μ-loop
-    loop-holds
-    mul-x
-    add-x
-    shared-slice-read-x
-    cast-x
-    add-x-2
-    add-i
-    loop-less
-    loop-again
+    four-bytes-requires
+    mul-result
+    add-four-bytes
+    four-bytes-requires-2
+    add-result
     returns)
