@@ -7,7 +7,7 @@ use native.Mathlib.Nat.{add-zero, zero-add, suc-add, add-comm, add-mul, zero-mul
 use native.Mathlib.Numerals.{add-one, one-add}
 use native.Mathlib.Omega.{arith}
 use lib.Arith.{lt-of-le-ne}
-use lib.Pow.{pow-add, shr-shr, mod-pow-add}
+use lib.Pow.{pow-add, shl-shr, shr-shr, shr-mod, split, mod-pow-add}
 use lib.Dec.{eqb, ltb, lit<}
 use lib.ListN.{length, getD, set, drop, replicate, drop-of-length-le, length-set, length-append, List·getD-append, List·getD-eq-default}
 use lib.Seq.{drop-cons, ext-getD, set-set, set-getD, getD-set-same, getD-set-other, getD-append-seam}
@@ -84,6 +84,52 @@ put-in-byte bytes k r (suc w) t x l small e =
     ∙ rest
     ∙ set-set bytes k more _
     ∙ ap (set bytes k) (rw (now, low) (byte-sum (getD bytes k 0) d (x % 2 ^ w) w t))
+
+-- ** Bits within a byte, as code adds them to it
+
+module _ (bytes : List ℕ) (k : ℕ) (l : k < length bytes) (small : getD bytes k 0 < 256) where
+  abbrev plus : ℕ → List ℕ
+  plus x = set bytes k ((getD bytes k 0 + x) % 256)
+
+  -- all eight
+  pub add-all : (x : ℕ) → plus (x % 256) ≡ putBits bytes (8 * k) (digits 8 x)
+  add-all x =
+      let e : x % 256 ≡ x % 2 ^ 8 * 2 ^ 0 = omega arith in
+      ap plus e ∙ sym (put-in-byte bytes k 0 8 0 x l small refl) ∙ ap (λ (i : ℕ). putBits bytes i (digits 8 x)) (add-zero (8 * k))
+
+  -- of eight bits those that the byte still takes, behind r others
+  pub add-first : (r x : ℕ) → r ≤ 8 → x < 256 → plus (x / 2 ^ r) ≡ putBits bytes (8 * k + r) (digits (8 - r) (x / 2 ^ r))
+  add-first r x h below =
+      let wide : 8 ≡ 8 - r + r = omega arith in
+      let e : x / 2 ^ r ≡ x / 2 ^ r % 2 ^ (8 - r) * 2 ^ 0 = rw (shr-mod {n = x} (8 - r) r (rw (← wide) below)) (omega arith) in
+      ap plus e ∙ sym (put-in-byte bytes k r (8 - r) 0 (x / 2 ^ r) l small (omega arith))
+
+  -- and the last r, which the next byte begins with
+  pub add-last : (r x : ℕ) → r ≤ 8 → plus (x * 2 ^ (8 - r)) ≡ putBits bytes (8 * k) (digits r x)
+  add-last r x h =
+      let high = x / 2 ^ r in
+      let low = x % 2 ^ r in
+      let eight : r + (8 - r) ≡ 8 = omega arith in
+      let wide : 2 ^ r * 2 ^ (8 - r) ≡ 256 = sym (pow-add 2 r (8 - r)) ∙ ap (λ (w : ℕ). 2 ^ w) eight in
+      let parts : x * 2 ^ (8 - r) ≡ high * 256 + low * 2 ^ (8 - r) =
+      ap (λ (y : ℕ). y * 2 ^ (8 - r)) (sym (split x r))
+      ∙ add-mul (high * 2 ^ r) low (2 ^ (8 - r))
+      ∙ ap (λ (y : ℕ). y + low * 2 ^ (8 - r)) (mul-assoc high (2 ^ r) (2 ^ (8 - r)) ∙ ap (λ (y : ℕ). high * y) wide) in
+      ap (set bytes k) (over (getD bytes k 0) high (low * 2 ^ (8 - r)) parts)
+      ∙ sym (put-in-byte bytes k 0 r (8 - r) x l small (omega arith))
+      ∙ ap (λ (i : ℕ). putBits bytes i (digits r x)) (add-zero (8 * k))
+    where
+      over : (b q y : ℕ) {z : ℕ} → z ≡ q * 256 + y → (b + z) % 256 ≡ (b + y) % 256
+      over b q y e = omega (arith, e)
+
+  -- a one, behind r others
+  pub add-one-bit : (r : ℕ) → r < 8 → plus (128 / 2 ^ r) ≡ putBits bytes (8 * k + r) (true ∷ [])
+  unfolding digits
+  add-one-bit r h =
+      let seven : 7 ≡ 7 - r + r = omega arith in
+      let wide : 128 ≡ 2 ^ (7 - r) * 2 ^ r = ap (λ (w : ℕ). 2 ^ w) seven ∙ pow-add 2 (7 - r) r in
+      let e : 128 / 2 ^ r ≡ 1 % 2 ^ 1 * 2 ^ (7 - r) = ap (λ (y : ℕ). y / 2 ^ r) wide ∙ shl-shr (2 ^ (7 - r)) r ∙ omega arith in
+      ap plus e ∙ sym (put-in-byte bytes k r 1 (7 - r) 1 l small (omega arith))
 
 -- zeros change nothing
 pub put-zeros : (bytes : List ℕ) (at z : ℕ) (bits : List Bool) → ((k : ℕ) → getD bytes k 0 < 256)

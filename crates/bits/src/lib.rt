@@ -3,7 +3,7 @@ ghost use mathlib.Core.Path.{_≡_};
 ghost use mathlib.Core.Bool.{true, false};
 ghost use mathlib.Core.List.{[], _∷_, _++_};
 ghost use Prim.Native.Nat.{_+_, _*_, _/_, _%_, _^_, _≤_, _<_};
-ghost use lib.ListN.{length, getD, replicate};
+ghost use lib.ListN.{length, getD, set, replicate};
 ghost use Rattle.bits.specs.Bits.{digits, number, bitAt, putBits};
 
 // Bit i of bytes.
@@ -84,42 +84,40 @@ pub fn number_at(bytes: &[u8], at: usize, width: usize) -> u64
     (window(bytes, at / 8) >> behind) % (1 << width)
 }
 
-// Puts the lowest bits of a number, so many, into one byte from a place in it on, where zeros were.
-fn put_within(page: &mut [u8], at: usize, x: u32, width: usize)
-    requires { ⌜ (at / 8 < length (now page)) × (at % 8 + width ≤ 8) ⌝ }
-    ensures { λ _. ⌜ now (page .exit) ≡ putBits (now (page .entry)) at (digits width x) ⌝ }
+// Adds a number to byte k, and stays within the byte.
+fn add_to_byte(page: &mut [u8], k: usize, x: u32)
+    requires { ⌜ (k < length (now page)) × (x < 2 ^ 16) ⌝ }
+    ensures { λ _. ⌜ now (page .exit) ≡ set (now (page .entry)) k ((getD (now (page .entry)) k 0 + x) % 256) ⌝ }
 {
-    let k = at / 8;
-    let bits = (x % (1 << width)) << (8 - at % 8 - width);
-    page[k] = ((page[k] as u32 + bits) % 256) as u8;
+    page[k] = ((page[k] as u32 + x) % 256) as u8;
 }
 
-// Puts a byte to byte k.
+// Puts a byte to byte k, where zeros were.
 pub fn put_byte(page: &mut [u8], k: usize, x: u32)
-    requires { ⌜ (k < 2 ^ 32) × (k < length (now page)) ⌝ }
+    requires { ⌜ k < length (now page) ⌝ }
     ensures { λ _. ⌜ now (page .exit) ≡ putBits (now (page .entry)) (8 * k) (digits 8 x) ⌝ }
 {
-    put_within(page, 8 * k, x, 8);
+    add_to_byte(page, k, x % 256);
 }
 
 // Puts two bytes, the high one first, from byte k on.
 pub fn put_two_bytes(page: &mut [u8], k: usize, x: u32)
-    requires { ⌜ (k < 2 ^ 31) × (k + 1 < length (now page)) ⌝ }
+    requires { ⌜ k + 1 < length (now page) ⌝ }
     ensures { λ _. ⌜ now (page .exit) ≡ putBits (now (page .entry)) (8 * k) (digits 16 x) ⌝ }
 {
     put_byte(page, k, x / 256);
     put_byte(page, k + 1, x);
 }
 
-// Puts the eight lowest bits of a number from any place on: into two bytes, the second of which may get none.
+// Puts eight bits from any place on: into two bytes, the second of which may get none.
 pub fn put_eight(page: &mut [u8], at: usize, x: u32)
-    requires { ⌜ (at < 2 ^ 32) × (at / 8 + 1 < length (now page)) ⌝ }
+    requires { ⌜ (x < 256) × (at / 8 + 1 < length (now page)) ⌝ }
     ensures { λ _. ⌜ now (page .exit) ≡ putBits (now (page .entry)) at (digits 8 x) ⌝ }
 {
+    let k = at / 8;
     let second = at % 8;
-    let first = 8 - second;
-    put_within(page, at, x >> second, first);
-    put_within(page, at + first, x, second);
+    add_to_byte(page, k, x >> second);
+    add_to_byte(page, k + 1, x << (8 - second));
 }
 
 // Puts so many zeros and then a one from a place on. The zeros are there.
@@ -127,5 +125,6 @@ pub fn put_one(page: &mut [u8], at: usize, zeros: usize)
     requires { ⌜ (at < 2 ^ 32) × (zeros < 2 ^ 32) × ((at + zeros) / 8 < length (now page)) ⌝ }
     ensures { λ _. ⌜ now (page .exit) ≡ putBits (now (page .entry)) at (replicate zeros false ++ (true ∷ [])) ⌝ }
 {
-    put_within(page, at + zeros, 1, 1);
+    let place = at + zeros;
+    add_to_byte(page, place / 8, 128 >> (place % 8));
 }

@@ -3,19 +3,20 @@ use borrow.Author.Needs.{needs}
 use mathlib.Core.Path.{_≡_, ap, _∙_}
 use Prim.Native.Nat.{ℕ, _+_, _*_}
 use native.Mathlib.Omega.{arith}
-use lib.ListN.{length}
 use Rattle.bits.specs.Bits.{digits, putBits}
-use Rattle.bits.proofs.Putting.{length-put, put-parts}
+use Rattle.bits.proofs.Putting.{put-parts}
 use Rattle.bits.proofs.put_two_bytes.Statement.{statement}
 use Rattle.bits.proofs.put_two_bytes.Tie as tie
 
--- ** The states: behind the first call, and the start
+-- ** The states: behind the first byte, and the start
 
 abbrev first : tie.After-slice-known3 → tie.After-put-byte
 first c = c .before .before .before .before .before .before
 
 abbrev start : tie.After-put-byte → tie.Start
 start c = c .before .before .before
+
+-- ** The needs
 
 put-byte-requires : tie.Need-put-byte-requires
 put-byte-requires c κs = search needs
@@ -24,11 +25,7 @@ add-put-byte : tie.Need-add-put-byte
 add-put-byte c = search needs
 
 put-byte-requires-2 : tie.Need-put-byte-requires-2
-put-byte-requires-2 c κs =
-    let f = c .before .before .before in
-    let a = start f .args in
-    let long : length (f .put-byte .last .0) ≡ length (a .page .now) = ap length (f .put-byte .ensures) ∙ length-put (a .page .now) (8 * a .k) _ in
-    (omega arith, omega (arith, long))
+put-byte-requires-2 c κs = search needs
 
 same-length : tie.Need-same-length
 same-length c = search needs

@@ -52,7 +52,7 @@ cast-put-byte c = omega (arith, few (c .before))
 put-byte-requires : tie.Need-put-byte-requires
 put-byte-requires c κs =
     let e = c .before in
-    (omega arith, omega (arith, room e, length-challenge (start e .args .challenge .now)))
+    omega (arith, room e, length-challenge (start e .args .challenge .now))
 
 put-positions-requires : tie.Need-put-positions-requires
 put-positions-requires c κs =

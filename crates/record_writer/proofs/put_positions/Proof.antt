@@ -49,8 +49,7 @@ shared-slice-read-put-two-bytes c = search needs
 put-two-bytes-requires : tie.Need-put-two-bytes-requires Inv-loop μ-loop
 put-two-bytes-requires c κs =
     let t = c .before .before .before in
-    let s = start t in
-    (omega (arith, s .pre), omega (arith, s .pre, t .loop .inv .long))
+    omega (arith, start t .pre, t .loop .inv .long)
 
 add-i : tie.Need-add-i Inv-loop μ-loop
 add-i c = omega arith

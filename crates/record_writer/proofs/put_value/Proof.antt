@@ -72,7 +72,8 @@ add-put-eight c = omega (arith, bit-below (ltZ (toZ w32 (ofZ w32 (start (c .befo
 put-eight-requires : tie.Need-put-eight-requires
 put-eight-requires c κs =
     let s = start (c .before) in
-    (omega (arith, s .pre), omega (arith, s .pre .2, length-value (s .args .value)))
+    let sign = bit-below (ltZ (toZ w32 (ofZ w32 (s .args .value))) (pos 0)) in
+    (omega (arith, sign), omega (arith, s .pre .2, length-value (s .args .value)))
 
 add-put-one : tie.Need-add-put-one
 add-put-one c = search needs
