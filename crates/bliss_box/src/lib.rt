@@ -5,8 +5,13 @@ ghost use Rattle.read_list.specs.Entries.{filledPart};
 ghost use Rattle.exponential.specs.Exponential.{expOrRefusal};
 ghost use Rattle.session.specs.Calls.{opened, drawOf, afterDraw, drawLeft, respondOf, afterRespond, respondLeft};
 ghost use Rattle.key_check.specs.KeyCheck.{keyAnswer};
+ghost use Rattle.record_writer.specs.Call.{told, afterWrite, writeLeft};
+ghost use Rattle.record_reader.specs.Call.{afterRead, readLeft};
 ghost use Rattle.bliss_box.specs.Version.{version};
 use key_check::KeyCheck;
+use record_reader::Contents;
+use record_writer::Fields;
+use record_writer::Written;
 use session::Drawn;
 use session::Opened;
 use session::Responded;
@@ -17,7 +22,7 @@ use session::Session;
 pub extern "C" fn bliss_version() -> u32
     ensures { λ r. ⌜ r ≡ version ⌝ }
 {
-    400
+    500
 }
 
 // Opens a session of degree n.
@@ -89,4 +94,35 @@ pub extern "C" fn bliss_check_key(n: usize, key: &[i32], count: usize) -> KeyChe
     ensures { λ r. ⌜ r ≡ keyAnswer n (now (key .entry)) count ⌝ }
 {
     key_check::check_key(n, key, count)
+}
+
+// Writes the record of the fields that are told to the start of the output, the rest of which is unchanged. A field that is not told is
+// not looked at.
+#[no_mangle]
+pub extern "C" fn bliss_write_record(
+    n: usize,
+    fields: Fields,
+    challenge: &[u32],
+    z1: &[i32],
+    z2: &[i32],
+    out: &mut [u8],
+) -> Written
+    ensures { λ r. ⌜ afterWrite r (now (out .exit))
+        ≡ writeLeft (told n fields (now (challenge .entry)) (now (z1 .entry)) (now (z2 .entry))) (now (out .entry)) ⌝ }
+{
+    record_writer::write(n, fields, challenge, z1, z2, out)
+}
+
+// Reads a record: each of its fields goes to the start of its output, the rest of which is unchanged.
+#[no_mangle]
+pub extern "C" fn bliss_read_record(
+    bytes: &[u8],
+    challenge: &mut [u32],
+    z1: &mut [i32],
+    z2: &mut [i32],
+) -> Contents
+    ensures { λ r. ⌜ afterRead r (now (challenge .exit)) (now (z1 .exit)) (now (z2 .exit))
+        ≡ readLeft (now (bytes .entry)) (now (challenge .entry)) (now (z1 .entry)) (now (z2 .entry)) ⌝ }
+{
+    record_reader::read(bytes, challenge, z1, z2)
 }

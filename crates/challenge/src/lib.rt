@@ -3,7 +3,7 @@ ghost use mathlib.Core.Path.{_≡_};
 ghost use Rattle.challenge.specs.Challenge.{lengthFits, positionsBelow, ascends, arePositions, isChallenge};
 
 // The most positions of a challenge, at any degree.
-const MOST_POSITIONS: usize = 64;
+pub const MOST_POSITIONS: usize = 64;
 
 // Whether a challenge of degree n may have so many positions: there are not too many.
 pub fn length_fits(n: usize, count: usize) -> bool

@@ -38,3 +38,9 @@ pub const EXPONENT: u32 = 12;
 
 // The final sum of the key check is over what A may be.
 pub const KEY_SUM: u32 = 13;
+
+// An output is too short: for the record, or for a field of one.
+pub const OUTPUT: u32 = 14;
+
+// A value is too large for a record, or bytes are no record.
+pub const RECORD: u32 = 15;

@@ -1,0 +1,3 @@
+pub mod FieldSets
+pub mod Forms
+pub mod OneForOne

@@ -1,0 +1,3 @@
+pub mod LongestForm
+pub mod Fields
+pub mod ReadLaws
