@@ -12,7 +12,7 @@ pub fn draws_are_the_models(comparison: &Comparison) {
     for seed in run::seeds(1) {
         let (call, reasons) = calls::draw::any(&mut Random::new(seed));
         let drawn = comparison.draw(&format!("BLISS_SEED={seed}"), &call);
-        assert_eq!(drawn.answer.refusal, calls::first(&reasons), "BLISS_SEED={seed}: the call is not as it was made");
+        assert_eq!(drawn.answer.refusal, calls::first(&reasons, &DRAW_REFUSALS), "BLISS_SEED={seed}: the call is not as it was made");
         coverage.count_draw(&call, &drawn);
         coverage.count_reasons(&reasons, &DRAW_REFUSALS);
     }

@@ -14,7 +14,7 @@ pub fn responses_are_the_models(comparison: &Comparison) {
     for seed in run::seeds(1) {
         let (call, reasons) = calls::respond::any(&mut Random::new(seed));
         let responded = comparison.respond(&format!("BLISS_SEED={seed}"), &call);
-        assert_eq!(responded.answer.refusal, calls::first(&reasons), "BLISS_SEED={seed}: the call is not as it was made");
+        assert_eq!(responded.answer.refusal, calls::first(&reasons, &RESPOND_REFUSALS), "BLISS_SEED={seed}: the call is not as it was made");
         coverage.count_respond(&call, &responded);
         coverage.count_reasons(&reasons, &RESPOND_REFUSALS);
     }
