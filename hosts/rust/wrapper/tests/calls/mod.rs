@@ -1,8 +1,12 @@
 //! Calls to compare: served ones, at the edges of every rule, and what makes them refused.
 
+pub mod breach;
 pub mod draw;
 pub mod key_check;
+pub mod record;
 pub mod respond;
+
+use std::fmt::Display;
 
 use crate::random::Random;
 
@@ -22,7 +26,7 @@ pub fn degree(random: &mut Random) -> usize {
     DEGREES[random.word().trailing_zeros().min(8) as usize]
 }
 
-/// A degree for a list of calls: of these there are fewer, so that the larger degrees are somewhat likelier.
+/// A degree for a list of calls, or a record: of these there are fewer, so that the larger degrees are somewhat likelier.
 pub fn degree_of_list(random: &mut Random) -> usize {
     if random.one_in(8) {
         random.pick(&DEGREES)
@@ -78,6 +82,11 @@ pub fn places(n: usize) -> Vec<usize> {
 /// The first of these refusals, in the order in which they are tested, that is among the reasons, or 0.
 pub fn first(reasons: &[u32], refusals: &[u32]) -> u32 {
     refusals.iter().copied().find(|refusal| reasons.contains(refusal)).unwrap_or(0)
+}
+
+/// Fails where a call was not refused, or served, as its reasons have it.
+pub fn assert_as_made(origin: &dyn Display, refusal: u32, reasons: &[u32], refusals: &[u32]) {
+    assert_eq!(refusal, first(reasons, refusals), "{origin}: the call is not as it was made");
 }
 
 /// The low 62 bits of a word below any top two bits.

@@ -2,6 +2,7 @@
 
 mod draw;
 mod key_check;
+mod record;
 mod respond;
 
 use std::collections::BTreeMap;
@@ -12,6 +13,7 @@ use crate::run;
 
 pub use draw::REFUSALS as DRAW_REFUSALS;
 pub use key_check::REFUSALS as KEY_CHECK_REFUSALS;
+pub use record::{of_map, of_pad, READ_REFUSALS, WRITE_REFUSALS};
 pub use respond::REFUSALS as RESPOND_REFUSALS;
 pub use respond::{BY_A, BY_COSH, BY_Z, BY_Z1};
 
