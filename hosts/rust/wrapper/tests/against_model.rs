@@ -66,7 +66,7 @@ const PARTS: [Part; 26] = [
     ("key checks beside every challenge", key_checks::no_challenge_has_a_greater_sum),
     ("records written", records::records_written_are_the_models),
     ("records read", records::records_read_are_the_models),
-    ("records spoilt in one place", records::each_check_alone_is_the_models),
+    ("records broken in one place", records::each_check_alone_is_the_models),
     ("records by hand", records::records_by_hand_are_the_models),
     ("records changed in one place", records::changed_records_are_the_models),
     ("records of random bytes", records::random_bytes_are_the_models),
