@@ -220,6 +220,29 @@ static void test_halves(void)
     CHECK("halves", contents.refusal == BLISS_SERVED && contents.map == 6 && nothing_is_written());
 }
 
+/* Of all sequences of three bytes, those are records that have no field, and a degree: nine. Of shorter ones, none. */
+static void test_short(void)
+{
+    uint8_t bytes[3];
+    size_t taken = 0;
+
+    for (uint32_t number = 0; number < UINT32_C(1) << 24; number++) {
+        bytes[0] = (uint8_t)(number >> 16);
+        bytes[1] = (uint8_t)(number >> 8);
+        bytes[2] = (uint8_t)number;
+        taken += bliss_read_record(bytes, 3, lent.challenge, ROOM, lent.z1, ROOM, lent.z2, ROOM).refusal == BLISS_SERVED;
+    }
+    CHECK("three bytes", taken == 9);
+    taken = 0;
+    for (uint32_t number = 0; number < UINT32_C(1) << 16; number++) {
+        bytes[0] = (uint8_t)(number >> 8);
+        bytes[1] = (uint8_t)number;
+        for (size_t length = 0; length < 3; length++)
+            taken += bliss_read_record(bytes, length, lent.challenge, ROOM, lent.z1, ROOM, lent.z2, ROOM).refusal == BLISS_SERVED;
+    }
+    CHECK("two bytes, one and none", taken == 0);
+}
+
 /* Whether writing gives this refusal, for these fields. */
 static bool write_is_refused(uint32_t refusal, size_t n, const uint32_t *positions, size_t count, const int32_t *first,
                              size_t first_length, const int32_t *second, size_t second_length, size_t out_length)
@@ -269,6 +292,7 @@ int main(void)
         CHECK(none->name, is_refused(contents_of(none->bytes, none->length, 0, 0, 0), BLISS_REFUSED_RECORD));
     }
     test_halves();
+    test_short();
     test_order();
     printf("records: %zu claims%s\n", claims, right ? "" : ", and some are false");
     return !right;

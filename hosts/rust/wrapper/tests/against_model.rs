@@ -47,7 +47,7 @@ const LEAST_PAIRS: u64 = 32_000;
 
 type Part = (&'static str, fn(&Comparison));
 
-const PARTS: [Part; 26] = [
+const PARTS: [Part; 27] = [
     ("guards", lent::guards_notice_every_change),
     ("openings", openings_are_the_models),
     ("filled parts", filled_parts_are_the_models),
@@ -67,6 +67,7 @@ const PARTS: [Part; 26] = [
     ("records written", records::records_written_are_the_models),
     ("records read", records::records_read_are_the_models),
     ("records broken in one place", records::each_check_alone_is_the_models),
+    ("records of every value", records::every_value_is_the_models),
     ("records by hand", records::records_by_hand_are_the_models),
     ("records changed in one place", records::changed_records_are_the_models),
     ("records of random bytes", records::random_bytes_are_the_models),

@@ -10,7 +10,7 @@ use crate::calls::record::{any_write, field_set, field_set_of, read_any, read_of
 use crate::calls::{self, DEGREES};
 use crate::comparison::Comparison;
 use crate::coverage::{at_degree, every_refusal, of_map, of_pad, Coverage, READ_REFUSALS, WRITE_REFUSALS};
-use crate::model::record::{Contents, FieldSet, Reading, Write};
+use crate::model::record::{Contents, FieldSet, Reading, Write, VALUE_LIMIT};
 use crate::random::Random;
 use crate::run::{self, DEFAULT_SEED};
 
@@ -91,6 +91,24 @@ pub fn each_check_alone_is_the_models(comparison: &Comparison) {
                 assert_eq!(reading.contents.refusal, 15, "n = {n}, map {map}, {breach} is served");
             }
         }
+    }
+}
+
+/// Each value that can be stored, and one beyond each end, in one place of z1 or z2.
+pub fn every_value_is_the_models(comparison: &Comparison) {
+    let mut random = Random::new(DEFAULT_SEED);
+    for value in -VALUE_LIMIT - 1..=VALUE_LIMIT + 1 {
+        let origin = format!("value {value}");
+        let mut halves = [[0, -1, 1, 0], [1, 0, 0, -1]];
+        let place = value.unsigned_abs() as usize % 8;
+        halves[place / 4][place % 4] = value;
+        let [z1, z2] = halves.map(|z| Some(z.to_vec()));
+        let fields = FieldSet { n: 4, challenge: None, z1, z2 };
+        let written = comparison.write_record(&origin, &write_of(&mut random, fields.clone()));
+        let is_stored = value.abs() <= VALUE_LIMIT;
+        assert_eq!(written.refusal, if is_stored { 0 } else { 15 }, "{origin}");
+        let reading = comparison.read_record(&origin, &read_any(fields.record()));
+        assert_eq!(fields_of(&reading), is_stored.then_some(fields), "{origin}: what is read is not what was written");
     }
 }
 
