@@ -4,7 +4,8 @@
 //! ([`Record`]). Documents 01 and 02 are the definition of the box; docs/SPECIFICATION.md has its rules, and what is listed.
 //!
 //! ```
-//! use bliss_box::{check_key, draw_limit, draw_word_count, OwnedDraw, Secret, Session, CDT, POLYNOMIAL, RESPOND_WORDS};
+//! use bliss_box::{check_key, draw_limit, draw_word_count, OwnedDraw, Record, Secret, Session};
+//! use bliss_box::{CDT, POLYNOMIAL, RESPOND_WORDS};
 //!
 //! // Making keys and challenges is the host's. A key is s1 and then s2, a challenge its positions in ascending order.
 //! let key = Secret::from(vec![1; 1024]);
@@ -30,7 +31,11 @@
 //!     }
 //!     session = responded.session; // rejected: the next try has new noise, and so another challenge
 //! };
-//! assert_eq!(z.len(), 1024);
+//!
+//! // What a file holds of the signature is chosen here; a host that rounds z2 stores what it has made of it.
+//! let record = Record { degree: 512, challenge: Some(challenge.into()), z1: Some(z[..512].into()), z2: Some(z[512..].into()) };
+//! let bytes = record.to_bytes()?;
+//! assert_eq!(Record::from_bytes(&bytes)?, record);
 //! # Ok::<(), Box<dyn std::error::Error>>(())
 //! ```
 //!
