@@ -96,6 +96,17 @@ wrong_z1() {
         "let bit = response.tests()[..4] == [true; 4] && (0..n).all(|i| $2.abs() <= COEFFICIENT_LIMIT);"
 }
 
+# wrong_refusal NAME CHANGE: one that changes `refusal`, that of the fields of a record to be written.
+wrong_refusal() {
+    wrong "$1" 'let refusal = refusal_of_fields(&fields);' "let mut refusal = refusal_of_fields(&fields);
+     $2"
+}
+
+# wrong_told NAME TOLD: one that tests fields as if others were told.
+wrong_told() {
+    wrong_refusal "$1" "if refusal == 0 { refusal = refusal_of_fields(&Write { told: $2, ..call.clone() }.field_set()); }"
+}
+
 # Document 01's calls, and what document 02 changed of them.
 words='openings filled exponentials draws responses lists demand'
 compare || fail "the right model is not the archive's"
@@ -426,17 +437,6 @@ wrong 'refusals 13 and 10 in the other order' 'let refusal = refusal_of_key(call
 part=record.rs
 words='written read broken hand'
 compare || fail "the right model of records is not the archive's"
-
-# wrong_refusal NAME CHANGE: one that changes the refusal of a write call's fields.
-wrong_refusal() {
-    wrong "$1" 'let refusal = refusal_of_fields(&fields);' "let mut refusal = refusal_of_fields(&fields);
-     $2"
-}
-
-# wrong_told NAME TOLD: one that tests fields as if others were told.
-wrong_told() {
-    wrong_refusal "$1" "if refusal == 0 { refusal = refusal_of_fields(&Write { told: $2, ..call.clone() }.field_set()); }"
-}
 
 # Form of a record
 form='let zeros = "0".repeat(size as usize / 128);
