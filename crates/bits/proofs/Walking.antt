@@ -5,18 +5,14 @@ use mathlib.Core.List.{List}
 use Prim.Native.Nat.{ℕ, zero, suc, _+_, _-_, _≤_, _<_}
 use native.Mathlib.Numerals.{add-one}
 use native.Mathlib.Omega.{arith}
-use lib.ListN.{length, take, drop, set, length-set}
-use lib.Seq.{sets, sets-eq, take-append-seam}
+use lib.ListN.{length, set, length-set}
+use lib.Seq.{sets}
 use Rattle.bits.specs.Items.{itemsAt, behind, eachAt}
 
 pub length-items : {A : Type 0} (item : ℕ → A) (next : ℕ → ℕ) (at count : ℕ) → length (itemsAt item next at count) ≡ count
 unfolding itemsAt
 length-items item next at zero = refl
 length-items item next at (suc count) = ap suc (length-items item next (next at) count)
-
--- what is written to the start of a list stands there
-pub take-written : {A : Type 0} (list es : List A) (count : ℕ) → length es ≡ count → count ≤ length list → take count (sets list 0 es) ≡ es
-take-written list es count e h = rw (← e, sets-eq es list 0 (omega (arith, e, h))) (take-append-seam es (drop (0 + length es) list))
 
 -- what is left of a count
 pub none-left : {i count : ℕ} → count ≤ i → count - i ≡ 0

@@ -5,6 +5,8 @@ use Rattle.signed.specs.Vectors.{allWithin, squareSum, innerProduct}
 use Rattle.checks.specs.Checks.{among, isDegree, allBelow, firstRefusal}
 use Rattle.exponential.specs.Exponential.{factorial, entriesFrom as polynomialFrom, polynomial, sameWords, isPolynomial}
 use Rattle.exponential.specs.Exponential.{reciprocal, scaled, evaluate, squared, squarings, expScaled, expWith, exp, expOrRefusal}
+use Rattle.bits.specs.Bits.{digits, number, zeros, bitAt as bitOf, bytesFrom, packed}
+use Rattle.bits.specs.Items.{joined, given, stands, formIf, itemsOf, passes, itemsAt, behind, eachAt}
 use Rattle.largest.specs.Largest.{insert, falling, total, largestSum}
 use Rattle.base_sample.specs.BaseSample.{wordsSmall, neverFalls, isCdt, atOrBelow, baseSample}
 use Rattle.known_points.specs.EvenThresholds.{thresholdsFrom, evenThresholds}
@@ -18,6 +20,11 @@ use Rattle.response.specs.Response.{responseOf, responseZ, isBounded, measuresO
 use Rattle.refusals.specs.Refusals.{openRefusal, drawRefusal, noiseRefusal, respondRefusal}
 use Rattle.session.specs.Calls.{opened, refusalOfDraw, bitsOfDraw, drawRefused, drawServed, drawLeft}
 use Rattle.session.specs.Calls.{refusalOfRespond, bitOfRespond, zOfRespond, respondRefused, respondServed, respondLeft}
+use Rattle.record.specs.Record.{valueBits, challengeBits, mapBits, fieldBits, recordOf}
+use Rattle.record.specs.Reading.{valueAt, nextValue, isValue, positionsAt, z1Start, z2Start, fieldsEnd, fieldsOf, areFields, isRecord}
+use Rattle.record.specs.Reading.{fieldSetOf}
+use Rattle.record_writer.specs.Call.{writeRefusal, writeLeft}
+use Rattle.record_reader.specs.Call.{contentsOf, noContents, handedOver}
 use Rattle.key_check.specs.KeyCheck.{rotation, table, rowSum, finalSum, keyRefusal, keyAnswer}
 use Rattle.histories.specs.Histories.{leftBy, eventOf}
 
@@ -55,6 +62,13 @@ responses = tt
 unfoldable pub keyChecks : Unit {0}
 unfolding responses insert falling total largestSum rotation table rowSum finalSum keyRefusal keyAnswer
 keyChecks = tt
+
+-- records, and calls that write and read them
+unfoldable pub records : Unit {0}
+unfolding digits number zeros bitOf bytesFrom packed joined given stands formIf itemsOf passes itemsAt behind eachAt
+    valueBits challengeBits mapBits fieldBits recordOf valueAt nextValue isValue positionsAt z1Start z2Start fieldsEnd fieldsOf areFields
+    isRecord fieldSetOf writeRefusal writeLeft contentsOf noContents handedOver
+records = tt
 
 -- read lists
 unfoldable pub lists : Unit {0}

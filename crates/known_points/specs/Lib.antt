@@ -9,5 +9,6 @@ pub mod DrawRefusals
 pub mod DefaultCdt
 pub mod RespondRefusals
 pub mod KeyNumbers
+pub mod RecordNumbers
 pub mod ReadLists
 pub mod Demand3Instance

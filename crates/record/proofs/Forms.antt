@@ -12,8 +12,8 @@ use lib.Dec.{leb, eqb}
 use mir.Syntax.{w32}
 use mir.Val.{SFits}
 use lib.IntN.{ℤ, pos, negsuc, natAbs}
-use lib.ListN.{length, getD, replicate, length-append, length-replicate}
-use Rattle.bits.specs.Bits.{digits, number, zeros}
+use lib.ListN.{length, getD, replicate, length-append}
+use Rattle.bits.specs.Bits.{digits, number}
 use Rattle.bits.specs.Items.{joined, given, stands, formIf, itemsAt, behind, eachAt}
 use Rattle.bits.proofs.Numbers.{number-below}
 use Rattle.bits.proofs.Streams.{Holds, length-digits, holds-first, holds-rest, holds-both, holds-number, number-holds, holds-zeros, zeros-holds, zeros-most, digits-low}

@@ -10,6 +10,8 @@ use Rattle.bits.specs.Items.{stands, itemsOf}
 use Rattle.record.specs.Record.{FieldSet, isFieldSet, recordOf}
 use Rattle.record.specs.Reading.{fieldSetOf}
 
+-- ** One for one
+
 -- bytes are numbers below 256
 abbrev pub AreBytes : List ℕ → Type 0
 AreBytes bytes = (k : ℕ) → getD bytes k 0 < 256
@@ -37,7 +39,11 @@ RecordsAlone =
     (bytes : List ℕ) → AreBytes bytes
     → (stands (fieldSetOf bytes) ≡ true) ↔ ((f : FieldSet) × (isFieldSet f ≡ true) × (recordOf f ≡ bytes))
 
--- the longest record, at 34 bits a value
+-- ** How long a record can be
+
+-- of degree n and with so many positions: 34 bits for each value of z1 and z2, the form of the largest size
+abbrev pub longest : (n count : ℕ) → ℕ
+longest n count = 4 + 2 * count + (34 * (2 * n) + 7) / 8
+
 abbrev pub LongestRecord : Type 0
-LongestRecord =
-    (f : FieldSet) → isFieldSet f ≡ true → length (recordOf f) ≤ 4 + 2 * length (itemsOf (f .challenge)) + (2 * f .n * 34 + 7) / 8
+LongestRecord = (f : FieldSet) → isFieldSet f ≡ true → length (recordOf f) ≤ longest (f .n) (length (itemsOf (f .challenge)))

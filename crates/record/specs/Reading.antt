@@ -1,6 +1,6 @@
 -- What is read off the bits of a record. Behind the bytes the stream has zeros, so that reading needs no bounds: a value that is cut short
--- has no one, and is too large, and anything else that is ends behind the bytes. Nobody has to believe this file: OneForOne says that what is
--- read so are the records and nothing else. Assumes nothing.
+-- has no one, and is too large; anything else that is cut short ends behind the bytes. Nobody has to believe this file: OneForOne says that
+-- what is read so are the records, and nothing else. Assumes nothing.
 use mathlib.Core.Bool.{Bool, cond, not, _&&_, _||_}
 use mathlib.Core.List.{List}
 use mathlib.Core.Option.{Option}

@@ -1,8 +1,7 @@
 -- A value, by the number of the 34 bits that its longest form has. Assumes nothing.
 use mathlib.Core.Path.{_≡_, ap, _∙_}
 use mathlib.Core.Bool.{Bool}
-use Prim.Native.Nat.{ℕ, suc, _+_, _*_, _/_, _%_, _^_}
-use native.Mathlib.Omega.{arith}
+use Prim.Native.Nat.{ℕ, suc, _+_, _/_, _%_, _^_}
 use lib.Arith.{digits-div, digits-mod}
 use lib.Count.{leadingZeros}
 use lib.Dec.{eqb}

@@ -127,7 +127,8 @@ fn is_challenge_at(bytes: &[u8], n: usize) -> bool
 
 // The same, if its bit stands.
 fn challenge_passes(bytes: &[u8], n: usize) -> bool
-    ensures { λ r. ⌜ r ≡ (not (hasChallenge (bitAt (now (bytes .entry)))) || isChallenge n (challengeAt (bitAt (now (bytes .entry))) 24)) ⌝ }
+    ensures { λ r. ⌜ r ≡ (not (hasChallenge (bitAt (now (bytes .entry))))
+        || isChallenge n (challengeAt (bitAt (now (bytes .entry))) 24)) ⌝ }
 {
     if !bits::bit_at(bytes, 7) {
         return true;
@@ -251,7 +252,8 @@ fn get_fields(
 )
     requires { ⌜ (areFields (bitAt (now bytes)) ≡ true) × (contents ≡ contentsOf (fieldsOf (bitAt (now bytes)))) ⌝ }
     requires { ⌜ haveRoom contents (length (now challenge)) (length (now z1)) (length (now z2)) ≡ true ⌝ }
-    ensures { λ _. ⌜ now (challenge .exit) ≡ sets (now (challenge .entry)) 0 (itemsOf (fieldsOf (bitAt (now (bytes .entry))) .challenge)) ⌝ }
+    ensures { λ _. ⌜ now (challenge .exit)
+        ≡ sets (now (challenge .entry)) 0 (itemsOf (fieldsOf (bitAt (now (bytes .entry))) .challenge)) ⌝ }
     ensures { λ _. ⌜ now (z1 .exit) ≡ sets (now (z1 .entry)) 0 (itemsOf (fieldsOf (bitAt (now (bytes .entry))) .z1)) ⌝ }
     ensures { λ _. ⌜ now (z2 .exit) ≡ sets (now (z2 .entry)) 0 (itemsOf (fieldsOf (bitAt (now (bytes .entry))) .z2)) ⌝ }
 {

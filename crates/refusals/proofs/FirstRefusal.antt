@@ -72,7 +72,7 @@ fails-outside bound values = record {
     somewhere [] e = absurd (false≢true (sym e))
     somewhere (v ∷ values) e = by v values (somewhere values) (leb (natAbs v) bound) refl e
 
-fails-no-challenge : (n : ℕ) (challenge : List ℕ)
+pub fails-no-challenge : (n : ℕ) (challenge : List ℕ)
     → FailsWhere (isChallenge n challenge) ((length challenge ≡ 0) ⊎ TooMany n (length challenge) ⊎ NoPositions n challenge)
 unfolding isChallenge arePositions positionsBelow ascends
 fails-no-challenge n challenge =

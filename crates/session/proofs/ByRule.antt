@@ -5,7 +5,7 @@ use mathlib.Core.List.{List}
 use mathlib.Core.Logic.{_↔_}
 use Prim.Native.Nat.{ℕ, _*_}
 use lib.ListN.{length, getD}
-use Rattle.read_list.proofs.FilledPart.{take-written}
+use Rattle.lists.proofs.AtTheStart.{take-written}
 use Rattle.exponential.specs.Exponential.{polynomial, expWith, divisor, exp}
 use Rattle.attempt.specs.Attempt.{bitAt}
 use Rattle.sampler.specs.Draw.{sampledBy, Stops}

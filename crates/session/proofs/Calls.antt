@@ -10,7 +10,8 @@ use lib.ListN.{length, take, drop}
 use lib.Seq.{sets, length-sets}
 use borrow.Author.Tests.{eq-eqb, ne-eqb}
 use Rattle.read_list.specs.Entries.{filledPart}
-use Rattle.read_list.proofs.FilledPart.{filled-up-to, take-written, rest-unwritten}
+use Rattle.lists.proofs.AtTheStart.{take-written, rest-unwritten}
+use Rattle.read_list.proofs.FilledPart.{filled-up-to}
 use Rattle.sampler.specs.Draw.{drawListLength, drawEntries, sampledBy}
 use Rattle.sampler.proofs.DrawTells.{draw-entries-at-most}
 use Rattle.response.specs.Response.{respondEntries, respondedBy}

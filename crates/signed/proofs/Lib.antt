@@ -1,5 +1,4 @@
 pub mod Signs
-pub mod Filling
 pub mod Vectors
 pub mod Integers
 pub mod InnerProducts

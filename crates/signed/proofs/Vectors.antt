@@ -8,7 +8,7 @@ use native.Mathlib.Nat.{mul-le-mul, suc-inj}
 use native.Mathlib.Omega.{arith}
 use lib.Dec.{leb}
 use lib.IntN.{ℤ, pos, natAbs, _+ℤ_, _*ℤ_, +ℤ-idl, +ℤ-idr, +ℤ-assoc}
-use lib.ListN.{length, getD, take}
+use lib.ListN.{length, getD, take, drop}
 use lib.Seq.{getD-take}
 use borrow.Author.Tests.{leb-true, le-leb}
 use Rattle.signed.specs.Vectors.{allWithin, squareSum, innerProduct, SquaresByOneMore, ProductsByOneMore}
@@ -49,6 +49,11 @@ first-within bound n values = (λ h i g. rw (getD-take n values i (pos 0) g) at 
     all (suc n) [] h = within-none bound
     all (suc n) (v ∷ values) h =
         within-more bound v (take n values) (h 0 (omega arith)) (all n values (λ i g. h (suc i) (omega arith)))
+
+pub within-drop : (bound n : ℕ) (values : List ℤ) → allWithin bound values ≡ true → allWithin bound (drop n values) ≡ true
+within-drop bound zero values h = h
+within-drop bound (suc n) [] h = h
+within-drop bound (suc n) (v ∷ values) h = within-drop bound n values (within-parts bound v values h .1)
 
 pub within-append : (bound : ℕ) (as′ bs : List ℤ) → allWithin bound as′ ≡ true → allWithin bound bs ≡ true
     → allWithin bound (as′ ++ bs) ≡ true

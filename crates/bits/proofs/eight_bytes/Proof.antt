@@ -1,5 +1,4 @@
 -- `bits::eight_bytes` meets its contract: after i turns i bytes are gathered. Assumes nothing.
-use borrow.Author.Needs.{needs}
 use mathlib.Core.Path.{refl}
 use Prim.Native.Nat.{_+_, _-_, _^_, _<_}
 use lib.ListN.{getD}

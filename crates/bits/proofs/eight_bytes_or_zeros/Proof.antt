@@ -1,9 +1,7 @@
 -- `bits::eight_bytes_or_zeros` meets its contract: after i turns i bytes are gathered. Assumes nothing.
 use borrow.Author.Needs.{needs}
-use mathlib.Core.Path.{_≡_}
 use Prim.Native.Nat.{_+_, _-_, _^_, _<_}
 use native.Mathlib.Omega.{arith}
-use lib.ListN.{getD}
 use Rattle.bits.proofs.Gathering.{Gathered, gather-start, gather-room, gather-step, gather-end}
 use Rattle.bits.proofs.eight_bytes_or_zeros.Statement.{statement}
 use Rattle.bits.proofs.eight_bytes_or_zeros.Tie as tie

@@ -13,35 +13,61 @@ use Rattle.record_reader.proofs.ReadLaws.{Most, most, fits, positions-r
 use Rattle.record_reader.proofs.get_fields.Statement.{statement}
 use Rattle.record_reader.proofs.get_fields.Tie as tie
 
+-- ** The states: behind the positions and behind z1, and the start
+
+abbrev start : tie.After-get-positions-arg → tie.Start
+start c = c .before .before .before
+
+abbrev positions-written : tie.After-z1-start → tie.After-get-positions
+positions-written c = c .before .before .before
+
+abbrev z1-placed : tie.After-get-values → tie.After-z1-start
+z1-placed c = c .before .before
+
+abbrev z1-written : tie.After-get-values-arg2 → tie.After-get-values
+z1-written c = c .before .before
+
+-- where the function started, from behind the place of z1
+abbrev from-z1 : tie.After-z1-start → tie.Start
+from-z1 c = start (positions-written c .before)
+
+-- ** What is known there
+
 small : (c : tie.Start) → Most (bitAt (c .args .bytes .now))
 small c = most (bitAt (c .args .bytes .now)) (c .pre .0 .0)
 
-room : (c : tie.Start) → let a = c .args in (a .contents .positions ≤ length (a .challenge .now)) × (a .contents .z1 ≤ length (a .z1 .now)) × (a .contents .z2 ≤ length (a .z2 .now))
+room : (c : tie.Start) → let a = c .args in
+    (a .contents .positions ≤ length (a .challenge .now)) × (a .contents .z1 ≤ length (a .z1 .now)) × (a .contents .z2 ≤ length (a .z2 .now))
 room c = let a = c .args in fits (a .contents) (length (a .challenge .now)) (length (a .z1 .now)) (length (a .z2 .now)) (c .pre .1)
 
-next-is : (c : tie.After-get-values) → c .get-values .result ≡ z2Start (bitAt (c .before .before .before .before .before .before .before .before .before .args .bytes .now))
+next-is : (c : tie.After-get-values) → c .get-values .result ≡ z2Start (bitAt (from-z1 (z1-placed c) .args .bytes .now))
 next-is c =
-    let s = c .before .before .before .before .before .before .before .before .before in
+    let s = from-z1 (z1-placed c) in
     let t = bitAt (s .args .bytes .now) in
-    c .get-values .ensures .0 ∙ ap₂ (λ (i : ℕ) (a : Contents). behind (nextValue t) i (a .z1)) (c .before .before .z1-start .ensures .0) (s .pre .0 .1) ∙ z2-start-read t
+    c .get-values .ensures .0
+    ∙ ap₂ (λ (i : ℕ) (k : Contents). behind (nextValue t) i (k .z1)) (z1-placed c .z1-start .ensures .0) (s .pre .0 .1)
+    ∙ z2-start-read t
+
+-- ** The needs
 
 get-positions-requires : tie.Need-get-positions-requires
 get-positions-requires c κs =
-    let s = c .before .before .before in
-    (omega arith, omega (arith, ap (λ (a : Contents). a .positions) (s .pre .0 .1), small s .positions), room s .0)
+    let s = start c in
+    (omega arith, omega (arith, ap (λ (k : Contents). k .positions) (s .pre .0 .1), small s .positions), room s .0)
 
 z1-start-requires : tie.Need-z1-start-requires
 z1-start-requires c κs = search needs
 
 get-values-requires : tie.Need-get-values-requires
 get-values-requires c κs =
-    let s = c .before .before .before .before .before .before .before .before in
-    (omega (arith, c .before .z1-start .ensures .1), omega (arith, ap (λ (a : Contents). a .z1) (s .pre .0 .1), small s .z1), room s .1)
+    let s = from-z1 (c .before) in
+    (omega (arith, c .before .z1-start .ensures .1), omega (arith, ap (λ (k : Contents). k .z1) (s .pre .0 .1), small s .z1), room s .1)
 
 get-values-requires-2 : tie.Need-get-values-requires-2
 get-values-requires-2 c κs =
-    let s = c .before .before .before .before .before .before .before .before .before .before .before in
-    (omega (arith, next-is (c .before .before), small s .z2-start), omega (arith, ap (λ (a : Contents). a .z2) (s .pre .0 .1), small s .z2), room s .2)
+    let v = z1-written c in
+    let s = from-z1 (z1-placed v) in
+    (omega (arith, next-is v, small s .z2-start), omega (arith, ap (λ (k : Contents). k .z2) (s .pre .0 .1), small s .z2), room s .2)
 
 same-length : tie.Need-same-length
 same-length c = search needs
@@ -54,14 +80,19 @@ same-length-3 c = search needs
 
 returns : tie.Need-returns
 returns c =
-    let s = c .before .before .before .before .before .before .before .before .before .before .before .before .before in
+    let w = c .before in
+    let v = z1-written (w .before) in
+    let g = z1-placed v in
+    let s = from-z1 g in
     let t = bitAt (s .args .bytes .now) in
     let e = s .pre .0 .1 in
-    let v = c .before .before .before .before in (
-      c .before .before .before .before .before .before .before .before .before .get-positions .ensures ∙ ap (sets (s .args .challenge .now) 0) (ap (λ (a : Contents). positionsAt t 32 (a .positions)) e ∙ positions-read t),
+    let positions = ap (λ (k : Contents). positionsAt t 32 (k .positions)) e ∙ positions-read t in
+    let z1 = ap₂ (λ (i : ℕ) (k : Contents). itemsAt (valueAt t) (nextValue t) i (k .z1)) (g .z1-start .ensures .0) e ∙ z1-read t in
+    let z2 = ap₂ (λ (i : ℕ) (k : Contents). itemsAt (valueAt t) (nextValue t) i (k .z2)) (next-is v) e ∙ z2-read t in (
+      positions-written g .get-positions .ensures ∙ ap (sets (s .args .challenge .now) 0) positions,
       (
-        v .get-values .ensures .1 ∙ ap (sets (s .args .z1 .now) 0) (ap₂ (λ (i : ℕ) (a : Contents). itemsAt (valueAt t) (nextValue t) i (a .z1)) (v .before .before .z1-start .ensures .0) e ∙ z1-read t),
-        c .before .get-values2 .ensures .1 ∙ ap (sets (s .args .z2 .now) 0) (ap₂ (λ (i : ℕ) (a : Contents). itemsAt (valueAt t) (nextValue t) i (a .z2)) (next-is v) e ∙ z2-read t),
+        v .get-values .ensures .1 ∙ ap (sets (s .args .z1 .now) 0) z1,
+        w .get-values2 .ensures .1 ∙ ap (sets (s .args .z2 .now) 0) z2,
       ),
     )
 

@@ -8,9 +8,10 @@ use Prim.Native.Nat.{ℕ, _+_, _≤_, _<_}
 use borrow.Author.Tests.{lt-leb}
 use lib.Dec.{ltb}
 use lib.ListN.{length, take, replicate}
-use lib.Seq.{length-sets, length-take-le}
+use lib.Seq.{sets, length-sets, length-take-le}
 use Rattle.bits.specs.Bits.{number, bitAt}
-use Rattle.bits.proofs.Walking.{length-items, take-written}
+use Rattle.bits.proofs.Walking.{length-items}
+use Rattle.lists.proofs.AtTheStart.{take-written}
 use Rattle.challenge.specs.Challenge.{isChallenge, arePositions}
 use Rattle.record.specs.Reading.{positionsAt, challengeAt}
 use Rattle.record_reader.proofs.is_challenge_at.Statement.{statement}
@@ -24,11 +25,32 @@ length-positions : (s : ℕ → Bool) (at count : ℕ) → length (positionsAt s
 unfolding positionsAt
 length-positions s at count = length-items (λ (i : ℕ). number s i 16) (λ (i : ℕ). i + 16) at count
 
-held : (c : tie.After-positions3) → c .before .before .before .before .before .number-at .result ≤ length (c .before .before .get-positions .last .1 .1 .1 .0)
+-- the positions that the array holds
+taken : (s : ℕ → Bool) (count : ℕ) → count ≤ 64 → take count (sets (replicate 64 0) 0 (positionsAt s 32 count)) ≡ positionsAt s 32 count
+taken s count h =
+    let e = length-positions s 32 count in
+    ap (λ (k : ℕ). take k (sets (replicate 64 0) 0 (positionsAt s 32 count))) (sym e)
+    ∙ take-written (replicate 64 0) (positionsAt s 32 count) (omega (arith, e))
+
+-- ** The states: behind the positions, behind the count, and the start
+
+abbrev start : tie.After-number-at → tie.Start
+start c = c .before .before
+
+abbrev count-read : tie.After-get-positions → tie.After-number-at
+count-read c = c .before .before .before
+
+abbrev positions-held : tie.After-positions3 → tie.After-get-positions
+positions-held c = c .before .before
+
+held : (c : tie.After-positions3) → let g = positions-held c in count-read g .number-at .result ≤ length (g .get-positions .last .1 .1 .1 .0)
 held c =
-    let count = c .before .before .before .before .before .number-at .result in
-    let a = c .before .before .before .before .before .before .before .args in
-    rw (ap length (c .before .before .get-positions .ensures) ∙ length-sets (replicate 64 0) 0 (positionsAt (bitAt (a .bytes .now)) 32 count)) (omega arith)
+    let g = positions-held c in
+    let s = bitAt (start (count-read g) .args .bytes .now) in
+    let e = ap length (g .get-positions .ensures) ∙ length-sets (replicate 64 0) 0 (positionsAt s 32 (count-read g .number-at .result)) in
+    rw e (omega arith)
+
+-- ** The needs
 
 number-at-requires : tie.Need-number-at-requires
 number-at-requires c κs = search needs
@@ -56,15 +78,13 @@ is-challenge-requires c κs = search needs
 
 returns-2 : tie.Need-returns-2
 returns-2 c =
-    let g = c .before .before in
-    let a = g .before .before .before .before .before .before .args in
+    let g = positions-held (c .before) in
+    let r = count-read g .number-at in
+    let a = start (count-read g) .args in
     let s = bitAt (a .bytes .now) in
-    let count = g .before .before .before .before .number-at .result in
     c .is-challenge .ensures
     ∙ ap (isChallenge (a .n))
-    (ap (take count) (g .before .get-positions .ensures)
-    ∙ take-written (replicate 64 0) (positionsAt s 32 count) count (length-positions s 32 count) (omega arith)
-    ∙ ap (positionsAt s 32) (g .before .before .before .before .number-at .ensures))
+    (ap (take (r .result)) (g .get-positions .ensures) ∙ taken s (r .result) (omega arith) ∙ ap (positionsAt s 32) (r .ensures))
 
 pub is-challenge-at-spec : {M : Type 1} → statement M
 is-challenge-at-spec =

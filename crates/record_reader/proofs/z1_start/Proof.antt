@@ -1,7 +1,7 @@
 -- `record_reader::z1_start` meets its contract. Assumes nothing.
 use borrow.Author.Needs.{needs}
 use native.Mathlib.Omega.{arith}
-use mathlib.Core.Path.{_≡_, sym, _∙_}
+use mathlib.Core.Path.{sym, _∙_}
 use Prim.Native.Nat.{_^_, _<_}
 use Rattle.bits.specs.Bits.{bitAt}
 use Rattle.bits.proofs.Numbers.{number-below}

@@ -1,10 +1,10 @@
 -- `record_writer::put_positions` meets its contract: each turn leaves the positions that follow to be put. Assumes nothing.
 use borrow.Author.Needs.{needs}
 use native.Mathlib.Omega.{arith}
-use mathlib.Core.Path.{_≡_, ap, _∙_}
-use Prim.Native.Nat.{ℕ, _+_, _-_, _*_, _<_}
+use mathlib.Core.Path.{_≡_}
+use Prim.Native.Nat.{_+_, _-_, _*_, _<_}
 use lib.ListN.{length, getD}
-use Rattle.bits.specs.Bits.{digits, putBits}
+use Rattle.bits.specs.Bits.{digits}
 use Rattle.bits.proofs.Streams.{length-digits}
 use Rattle.bits.proofs.Putting.{Putting, putting-start, putting-step, putting-end}
 use Rattle.record_writer.proofs.put_positions.Statement.{statement}

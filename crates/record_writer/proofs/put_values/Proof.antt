@@ -1,7 +1,7 @@
 -- `record_writer::put_values` meets its contract: each turn leaves the values that follow to be put. Assumes nothing.
 use borrow.Author.Needs.{needs}
 use native.Mathlib.Omega.{arith}
-use Prim.Native.Nat.{ℕ, _+_, _-_, _*_, _≤_, _<_}
+use Prim.Native.Nat.{_+_, _-_, _*_, _≤_, _<_}
 use lib.IntN.{ℤ, pos, natAbs}
 use lib.ListN.{length, getD}
 use Rattle.bits.proofs.Putting.{Putting, putting-start, putting-step, putting-end, forms-length}

@@ -11,7 +11,7 @@ use lib.Seq.{set-getD}
 use mir.Syntax.{w32}
 use mir.Val.{toZ, ofZ}
 use Rattle.signed.proofs.Signs.{read-back}
-use Rattle.signed.proofs.Filling.{fill-more, fill-all}
+use Rattle.lists.proofs.Filling.{fill-more, fill-all}
 use Rattle.signed.proofs.keep_all.Statement.{statement}
 use Rattle.signed.proofs.keep_all.Tie as tie
 

@@ -6,7 +6,7 @@ use Prim.Native.Nat.{_≤_, _<_, _-_}
 use native.Mathlib.Omega.{arith}
 use lib.IntN.{ℤ, pos}
 use lib.ListN.{length, replicate, drop, set, length-set}
-use Rattle.signed.proofs.Filling.{fill-more, fill-all}
+use Rattle.lists.proofs.Filling.{fill-more, fill-all}
 use Rattle.signed.proofs.zero_all.Statement.{statement}
 use Rattle.signed.proofs.zero_all.Tie as tie
 

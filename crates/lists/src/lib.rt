@@ -1,0 +1,1 @@
+// Laws of lists that several crates need. This crate has no code: the laws are in proofs/.
