@@ -61,9 +61,9 @@ fn any_challenge(random: &mut Random) -> Vec<u32> {
     (0..random.pick(&[0, 1, 2, 64, 65, 200])).map(|_| random.word() as u32).collect()
 }
 
-/// As for a challenge.
+/// A half of a response of any length, of any contents.
 fn any_z(random: &mut Random, degree: usize) -> Vec<i32> {
-    let length = random.pick(&[0, 1, degree.min(2048), degree.min(2048) + 1]);
+    let length = random.pick(&[0, 1, degree, degree + 1]);
     (0..length).map(|_| random.word() as i32).collect()
 }
 
@@ -154,14 +154,13 @@ pub fn read_any(bytes: Vec<u8>) -> Read {
     Read { bytes, challenge: vec![u32::MAX; n.min(64)], z1: vec![i32::MIN; n], z2: vec![i32::MIN; n] }
 }
 
-/// Cuts outputs of a call that reads the record of these fields. False where it has no field.
+/// Cuts one output or more of a call that reads the record of these fields. False where it has no field.
 pub fn shorten_outputs(random: &mut Random, call: &mut Read, fields: &FieldSet) -> bool {
     let map = fields.map() as usize;
-    // One of the fields at least.
-    let which = (1 + random.below(7)) & map;
-    let which = if which == 0 { map } else { which };
-    for positions in fields.challenge.iter().filter(|_| which & 1 != 0) {
-        shorten(random, &mut call.challenge, positions.len());
+    let some = random.below(8) & map;
+    let which = if some == 0 { map } else { some };
+    if which & 1 != 0 {
+        shorten(random, &mut call.challenge, fields.challenge.as_ref().map_or(0, Vec::len));
     }
     if which & 2 != 0 {
         shorten(random, &mut call.z1, fields.n);
