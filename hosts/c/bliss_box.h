@@ -9,8 +9,8 @@
  * that applies, and leaves all memory and the session as they were.
  *
  * The host must guarantee what the types say, and no compiler sees: each pointer is aligned and valid for its length, for writing
- * too where it is not const; none is null, also with a length of 0; a buffer that is written overlaps no other; `drawn` is 0 or 1.
- * docs/HOST-GUIDE.md says more.
+ * too where it is not const; none is null, also with a length of 0; a buffer that is written overlaps no other; each bool, `drawn`
+ * and those of bliss_fields, is 0 or 1. docs/HOST-GUIDE.md says more.
  *
  * Calls may run at the same time in any threads, as long as no buffer that one of them writes is used by another: nothing else is
  * shared, and a session is a value.
@@ -54,8 +54,8 @@ extern "C" {
  * C99 has no static assertions. */
 #define BLISS_LAYOUT(name, claim) typedef char bliss_layout_of_##name[(claim) ? 1 : -1]
 
-/* The version of this header, 10000 * major + 100 * minor + patch: 0.4.0. */
-#define BLISS_BOX_VERSION 400
+/* The version of this header, 10000 * major + 100 * minor + patch: 0.5.0. */
+#define BLISS_BOX_VERSION 500
 
 /* The version of the archive, by the same rule. A host compares it with BLISS_BOX_VERSION at its start, before any other call,
  * and ends where they differ: a session travels by value, and an archive of another version may take its bytes for something
@@ -71,7 +71,8 @@ uint32_t bliss_version(void);
 enum {
     BLISS_SERVED = 0,
     BLISS_REFUSED_DEGREE = 1,      /* the degree is not a power of two from 4 to 1024 */
-    BLISS_REFUSED_LENGTHS = 2,     /* the CDT is not 20 words, the polynomial table not 21, or y, z or the key not 2n */
+    BLISS_REFUSED_LENGTHS = 2,     /* the CDT is not 20 words, the polynomial table not 21, y, z or the key not 2n, or z1 or z2 of
+                                      a record not n */
     BLISS_REFUSED_CDT = 3,         /* a CDT word is 2^62 or more, or a threshold is below the one before */
     BLISS_REFUSED_POLYNOMIAL = 4,  /* an entry of the polynomial table is not the whole part of 2^62 / j! */
     BLISS_REFUSED_LIMIT = 5,       /* the limit is outside 2n to 32n */
@@ -83,7 +84,9 @@ enum {
     BLISS_REFUSED_NOT_DRAWN = 9,   /* a response while nothing is drawn */
     BLISS_REFUSED_KEY = 10,        /* a value of the key is outside -7 to 7 */
     BLISS_REFUSED_Y = 11,          /* a value of y is outside -2815 to 2815 */
-    BLISS_REFUSED_KEY_SUM = 13     /* the final sum of the key check is above 46225 */
+    BLISS_REFUSED_KEY_SUM = 13,    /* the final sum of the key check is above 46225 */
+    BLISS_REFUSED_OUTPUT = 14,     /* the output is too short for the record, or for one of its fields */
+    BLISS_REFUSED_RECORD = 15      /* a value to be recorded is outside -3263 to 3263, or the bytes are no record */
 };
 
 /* A degree, and whether y is drawn. Each call takes a session and hands back the next one: use that one from then on. */
@@ -333,6 +336,78 @@ BLISS_LAYOUT(key_check, sizeof(bliss_key_check) == 8 && offsetof(bliss_key_check
  * The sum tells something of the key, and is the host's to keep. */
 BLISS_MUST_USE BLISS_NONNULL
 bliss_key_check bliss_check_key(size_t n, const int32_t *key, size_t key_length, size_t challenge_length);
+
+/* ==== Records ============================================================================================================= */
+
+/* A record is a signature as bytes, with the fields that the host wants of it: the challenge, z1, which is the first half of a
+ * response, and z2, the second, as the host has it, rounded or not. Fields that can be written have just one record, and bytes
+ * that can be read are the record of just one choice of fields: equal signatures are stored as equal bytes, and the other way
+ * round. All of it is public, and the calls take a time that depends on it. */
+
+/* The largest size of a value of z1 and of z2 in a record. Each value of a response is within it. */
+#define BLISS_VALUE_LIMIT 3263
+
+/* The most bytes of a record of degree n: with a challenge of so many positions, z1 and z2, at 34 bits a value. */
+#define BLISS_RECORD_BYTES(n, positions) \
+    (4 + 2 * BLISS_CAST(size_t, positions) + (68 * BLISS_CAST(size_t, n) + 7) / 8)
+
+/* Which fields a record is to have. */
+typedef struct {
+    bool challenge;
+    bool z1;
+    bool z2;
+} bliss_fields;
+BLISS_LAYOUT(fields, sizeof(bliss_fields) == 3 && offsetof(bliss_fields, z1) == 1 && offsetof(bliss_fields, z2) == 2);
+
+typedef struct {
+    uint32_t refusal;
+    size_t length; /* written from the start of the output; 0 where the call is refused */
+} bliss_written;
+BLISS_LAYOUT(written, sizeof(bliss_written) == 16 && offsetof(bliss_written, length) == 8);
+
+/* Writes the record of the fields that are told.
+ * Needs:   out writable, and apart from the rest. The challenge is its positions in ascending order. A field that is not told is
+ *          not looked at: it may have any length and any contents.
+ * Gives:   the record, from the start of out, and its length in bytes, which is at most
+ *          BLISS_RECORD_BYTES(n, challenge_length). It starts with a byte of 1 for the challenge, 2 for z1 and 4 for z2, added up,
+ *          and with n in two bytes, the high one first.
+ * Refuses: 1, 2, 6, 15, 14, in this order: 2 for a z1 or a z2 that is not n values, 6 for the challenge, 15 for a value of z1 or
+ *          z2 outside -BLISS_VALUE_LIMIT to BLISS_VALUE_LIMIT, and 14 for an out that is too short, each for what is told alone.
+ * Leaves:  out behind the record, and the fields; refused, everything. */
+BLISS_MUST_USE BLISS_NONNULL
+bliss_written bliss_write_record(size_t n, bliss_fields fields,                      //
+                                 const uint32_t *challenge, size_t challenge_length, //
+                                 const int32_t *z1, size_t z1_length,                //
+                                 const int32_t *z2, size_t z2_length,                //
+                                 uint8_t *out, size_t out_length);
+
+/* What a record has; all 0 where the call is refused. */
+typedef struct {
+    uint32_t refusal;
+    uint32_t map;     /* 1 for the challenge, 2 for z1 and 4 for z2, added up */
+    size_t degree;
+    size_t positions; /* of the challenge; 0 without it */
+    size_t z1;        /* n, or 0 without z1 */
+    size_t z2;        /* n, or 0 without z2 */
+} bliss_contents;
+BLISS_LAYOUT(contents, sizeof(bliss_contents) == 40 && offsetof(bliss_contents, map) == 4 &&
+                           offsetof(bliss_contents, degree) == 8 && offsetof(bliss_contents, positions) == 16 &&
+                           offsetof(bliss_contents, z1) == 24 && offsetof(bliss_contents, z2) == 32);
+
+/* Reads a record.
+ * Needs:   challenge, z1 and z2 writable, and apart from each other and from the bytes. Outputs of 64, 1024 and 1024 values are
+ *          long enough for every record.
+ * Gives:   which fields the record has, their lengths, and the degree; each of these fields from the start of its output. The
+ *          output of a field that the record does not have may be too short for it.
+ * Refuses: 15, 14, in this order: 15 for bytes that bliss_write_record does not give for any fields, and 14 for an output that
+ *          is shorter than its field.
+ * Leaves:  each output behind its field, the output of a field that the record does not have, and the bytes; refused,
+ *          everything. */
+BLISS_MUST_USE BLISS_NONNULL
+bliss_contents bliss_read_record(const uint8_t *bytes, size_t bytes_length,    //
+                                 uint32_t *challenge, size_t challenge_length, //
+                                 int32_t *z1, size_t z1_length,                //
+                                 int32_t *z2, size_t z2_length);
 
 /* ==== Exponential ========================================================================================================= */
 

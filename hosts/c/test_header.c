@@ -20,6 +20,8 @@ static const uint32_t refusals[] = {
     BLISS_REFUSED_Y,
     BLISS_EXPONENTIAL_REFUSED - (UINT64_C(1) << 63),
     BLISS_REFUSED_KEY_SUM,
+    BLISS_REFUSED_OUTPUT,
+    BLISS_REFUSED_RECORD,
 };
 
 static const uint32_t kinds[] = {
@@ -139,6 +141,33 @@ static bool key_sum_ends_at_its_limit(void)
            refused.sum == 0;
 }
 
+/* Values of the largest size make the longest record of all, and an output that is one byte shorter is too short for it. */
+static bool record_ends_at_its_limits(void)
+{
+    enum { LENGTH = BLISS_RECORD_BYTES(DEGREE, POSITIONS) };
+    const int32_t limit = BLISS_VALUE_LIMIT;
+    int32_t z1[DEGREE] = {limit, -limit, limit, -limit};
+    int32_t read[2][DEGREE] = {{0}};
+    uint32_t positions[POSITIONS] = {0};
+    uint8_t out[LENGTH] = {0};
+    bliss_fields fields = {true, true, true};
+    bliss_written written = bliss_write_record(DEGREE, fields, challenge, POSITIONS, z1, DEGREE, z1, DEGREE, out, LENGTH);
+    bliss_written cut = bliss_write_record(DEGREE, fields, challenge, POSITIONS, z1, DEGREE, z1, DEGREE, out, LENGTH - 1);
+    bliss_contents contents = bliss_read_record(out, LENGTH, positions, POSITIONS, read[0], DEGREE, read[1], DEGREE);
+
+    if (written.refusal != BLISS_SERVED || written.length != LENGTH || cut.refusal != BLISS_REFUSED_OUTPUT || cut.length != 0)
+        return false;
+    if (contents.refusal != BLISS_SERVED || contents.map != 7 || contents.degree != DEGREE ||
+        contents.positions != POSITIONS || contents.z1 != DEGREE || contents.z2 != DEGREE || positions[1] != challenge[1])
+        return false;
+    for (size_t i = 0; i < DEGREE; i++)
+        if (read[0][i] != z1[i] || read[1][i] != z1[i])
+            return false;
+    z1[DEGREE - 1]--;
+    written = bliss_write_record(DEGREE, fields, challenge, POSITIONS, z1, DEGREE, z1, DEGREE, out, LENGTH);
+    return written.refusal == BLISS_REFUSED_RECORD;
+}
+
 int main(void)
 {
     bliss_opened opened;
@@ -152,5 +181,7 @@ int main(void)
         return 3;
     if (!numbers_go_up() || !entry_is_taken_apart(BLISS_KIND_BIT, 1))
         return 4;
-    return POSITIONS <= BLISS_CHALLENGE_LIMIT(DEGREE) && BLISS_STACK_BYTES > 0 && BLISS_CHECK_KEY_STACK_BYTES > 0 ? 0 : 5;
+    if (!record_ends_at_its_limits())
+        return 5;
+    return POSITIONS <= BLISS_CHALLENGE_LIMIT(DEGREE) && BLISS_STACK_BYTES > 0 && BLISS_CHECK_KEY_STACK_BYTES > 0 ? 0 : 6;
 }

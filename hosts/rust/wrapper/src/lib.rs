@@ -1,10 +1,11 @@
 //! The BLISS-I sampling box for a Rust host. It draws the noise vector y of a signature from random words that the host
 //! supplies, turns y, a key and a challenge into a response or a rejection, and lists what it reads of words, tables and key
-//! after its checks. Before a key goes into a box, it tells whether the key can always sign. Documents 01 and 02 are the
-//! definition of the box; docs/SPECIFICATION.md has its rules, and what is listed.
+//! after its checks. Before a key goes into a box, it tells whether the key can always sign; and it stores signatures as bytes
+//! ([`Record`]). Documents 01 and 02 are the definition of the box; docs/SPECIFICATION.md has its rules, and what is listed.
 //!
 //! ```
-//! use bliss_box::{check_key, draw_limit, draw_word_count, OwnedDraw, Secret, Session, CDT, POLYNOMIAL, RESPOND_WORDS};
+//! use bliss_box::{check_key, draw_limit, draw_word_count, OwnedDraw, Record, Secret, Session};
+//! use bliss_box::{CDT, POLYNOMIAL, RESPOND_WORDS};
 //!
 //! // Making keys and challenges is the host's. A key is s1 and then s2, a challenge its positions in ascending order.
 //! let key = Secret::from(vec![1; 1024]);
@@ -30,7 +31,11 @@
 //!     }
 //!     session = responded.session; // rejected: the next try has new noise, and so another challenge
 //! };
-//! assert_eq!(z.len(), 1024);
+//!
+//! // What a file holds of the signature is chosen here; a host that rounds z2 stores what it has made of it.
+//! let record = Record { degree: 512, challenge: Some(challenge.into()), z1: Some(z[..512].into()), z2: Some(z[512..].into()) };
+//! let bytes = record.to_bytes()?;
+//! assert_eq!(Record::from_bytes(&bytes)?, record);
 //! # Ok::<(), Box<dyn std::error::Error>>(())
 //! ```
 //!
@@ -60,6 +65,7 @@ mod key_check;
 mod owned;
 pub mod raw;
 mod read_list;
+mod record;
 mod refusal;
 mod respond;
 mod secret;
@@ -74,6 +80,7 @@ pub use fault::Fault;
 pub use key_check::{check_key, KeyCheck, KEY_SUM_LIMIT};
 pub use owned::{CallError, Noise, OwnedDraw, OwnedResponse, Spent};
 pub use read_list::{filled, Entry, Kind};
+pub use record::{record_length_limit, Record, VALUE_LIMIT};
 pub use refusal::Refusal;
 pub use respond::{challenge_limit, respond_list_length, Outcome, Responded, COEFFICIENT_LIMIT, RESPOND_WORDS};
 pub use secret::Secret;

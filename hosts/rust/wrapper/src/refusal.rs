@@ -46,7 +46,7 @@ macro_rules! refusals {
 
 refusals! {
     1 Degree: "the degree is not a power of two from 4 to 1024",
-    2 Lengths: "the CDT is not 20 words, the polynomial table not 21, or y, z or the key not 2n",
+    2 Lengths: "the CDT is not 20 words, the polynomial table not 21, y, z or the key not 2n, or z1 or z2 of a record not n",
     3 Cdt: "a word of the CDT is 2^62 or more, or a threshold is below the one before",
     4 Polynomial: "an entry of the polynomial table is not the whole part of 2^62 / j!",
     5 Limit: "the limit is outside 2n to 32n attempts",
@@ -59,6 +59,8 @@ refusals! {
     11 Y: "a value of y is outside -2815 to 2815",
     12 Exponential: "N is above 5534960",
     13 KeySum: "the final sum of the key check is above 46225",
+    14 Output: "the output is too short for the record, or for one of its fields",
+    15 Record: "a value to be recorded is outside -3263 to 3263, or the bytes are no record",
 }
 
 impl fmt::Display for Refusal {
@@ -81,7 +83,7 @@ mod tests {
         for number in (1..100).chain([u32::MAX]) {
             let refusal = served(number).unwrap_err();
             assert_eq!(refusal.number(), number);
-            assert_eq!(refusal == Refusal::Unknown(number), number > 13, "{number}");
+            assert_eq!(refusal == Refusal::Unknown(number), number > 15, "{number}");
             assert!(refusal.to_string().starts_with(&format!("refusal {number}: ")));
         }
     }

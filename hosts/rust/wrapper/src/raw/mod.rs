@@ -16,6 +16,7 @@ mod exponential;
 mod filled;
 mod key_check;
 mod open;
+mod record;
 mod respond;
 mod version;
 
@@ -24,5 +25,6 @@ pub use exponential::bliss_exponential;
 pub use filled::bliss_filled;
 pub use key_check::{bliss_check_key, KeyCheck};
 pub use open::{bliss_open, Opened, Session};
+pub use record::{bliss_read_record, bliss_write_record, Contents, Fields, Written};
 pub use respond::{bliss_respond, RespondAnswer, Responded};
 pub use version::{bliss_version, VERSION};

@@ -18,10 +18,17 @@ fn refusals_carry_their_number() {
         Refusal::Y,
         Refusal::Exponential,
         Refusal::KeySum,
+        Refusal::Output,
+        Refusal::Record,
     ];
-    assert_eq!(refusals.map(Refusal::number), [1, 2, 3, 4, 5, 6, 7, 8, 9, 10, 11, 12, 13]);
+    assert_eq!(refusals.map(Refusal::number), [1, 2, 3, 4, 5, 6, 7, 8, 9, 10, 11, 12, 13, 14, 15]);
     assert_eq!(Refusal::Key.to_string(), "refusal 10: a value of the key is outside -7 to 7");
     assert_eq!(Refusal::Exponential.to_string(), "refusal 12: N is above 5534960");
     assert_eq!(Refusal::KeySum.to_string(), "refusal 13: the final sum of the key check is above 46225");
-    assert_eq!(Refusal::Unknown(14).to_string(), "refusal 14: it has no name here");
+    assert_eq!(Refusal::Output.to_string(), "refusal 14: the output is too short for the record, or for one of its fields");
+    assert_eq!(
+        Refusal::Record.to_string(),
+        "refusal 15: a value to be recorded is outside -3263 to 3263, or the bytes are no record"
+    );
+    assert_eq!(Refusal::Unknown(16).to_string(), "refusal 16: it has no name here");
 }
