@@ -1,6 +1,7 @@
 //! Compares the raw surface of the archive with the model. Every draw and every respond call is compared in its answer, its
 //! session, y, z, the whole list, and in what it must leave alone: what is lent for reading, and the memory around every buffer.
-//! So is every key check, and what it promises of a key that passes is looked for in respond calls.
+//! So is every key check, and what it promises of a key that passes is looked for in respond calls; and every record that is
+//! written or read, where what is written is read again, and what is taken for a record is written again.
 //! The last line says how many calls were compared. A run of the default length, or a longer one, fails where it misses a case, or
 //! compares less than the documents say.
 //!
@@ -20,6 +21,7 @@ mod lent;
 mod lists;
 mod model;
 mod random;
+mod records;
 mod responses;
 mod run;
 
@@ -37,12 +39,15 @@ const LEAST_CALLS: u64 = 250_000;
 /// The key checks that it compares with the model, or more.
 const LEAST_KEY_CHECKS: u64 = 5_000;
 
+/// The records written, and the bytes read, that it compares with the model, or more.
+const LEAST_RECORDS: u64 = 500_000;
+
 /// The pairs of lists of calls that it compares with each other, or more, as docs/ARCHITECTURE.md says.
 const LEAST_PAIRS: u64 = 32_000;
 
 type Part = (&'static str, fn(&Comparison));
 
-const PARTS: [Part; 20] = [
+const PARTS: [Part; 26] = [
     ("guards", lent::guards_notice_every_change),
     ("openings", openings_are_the_models),
     ("filled parts", filled_parts_are_the_models),
@@ -59,6 +64,12 @@ const PARTS: [Part; 20] = [
     ("key checks spoilt in one place", key_checks::each_check_alone_is_the_models),
     ("key checks at their limits", key_checks::the_limits_of_a_key_check_are_the_models),
     ("key checks beside every challenge", key_checks::no_challenge_has_a_greater_sum),
+    ("records written", records::records_written_are_the_models),
+    ("records read", records::records_read_are_the_models),
+    ("records broken in one place", records::each_check_alone_is_the_models),
+    ("records by hand", records::records_by_hand_are_the_models),
+    ("records changed in one place", records::changed_records_are_the_models),
+    ("records of random bytes", records::random_bytes_are_the_models),
     ("lists of calls", lists::lists_of_calls_are_the_models),
     ("demand 3, histories", demand3::read_lists_are_equal_exactly_when_histories_are),
     ("demand 3, agreement", demand3::what_is_not_listed_decides_nothing),
@@ -81,7 +92,7 @@ fn main() -> ExitCode {
     }
     println!("compared: {comparison}");
     if run::is_whole() && words.is_empty() && !is_enough(&comparison) {
-        eprint!("fewer than {LEAST_CALLS} draws and respond calls, than {LEAST_KEY_CHECKS} key checks");
+        eprint!("fewer than {LEAST_CALLS} draws and respond calls, than {LEAST_KEY_CHECKS} key checks, than {LEAST_RECORDS} records");
         eprintln!(", or than {LEAST_PAIRS} pairs of lists, were compared");
         return ExitCode::FAILURE;
     }
@@ -89,7 +100,10 @@ fn main() -> ExitCode {
 }
 
 fn is_enough(comparison: &Comparison) -> bool {
-    comparison.calls() >= LEAST_CALLS && comparison.key_checks() >= LEAST_KEY_CHECKS && comparison.pairs() >= LEAST_PAIRS
+    comparison.calls() >= LEAST_CALLS
+        && comparison.key_checks() >= LEAST_KEY_CHECKS
+        && comparison.records() >= LEAST_RECORDS
+        && comparison.pairs() >= LEAST_PAIRS
 }
 
 /// Runs each part in a thread of its own. One that fails says so itself, under its name.

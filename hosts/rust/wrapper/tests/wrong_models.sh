@@ -1,7 +1,7 @@
 #!/bin/sh
 # Shows that the comparison of calls with the model is no empty one: the model is made wrong in one place at a time, in a scratch
 # copy of the Rust hosts, and the comparison must fail. Each line says in what the wrong model was noticed to differ from the
-# archive. It takes about seven minutes.
+# archive. It takes about nine minutes.
 #
 # usage: hosts/rust/wrapper/tests/wrong_models.sh
 set -eu
@@ -421,6 +421,146 @@ wrong 'refusals 13 and 10 in the other order' 'let refusal = refusal_of_key(call
      if refusal == 10 && call.n <= 64 && Sums::of(&within, call.length).final_sum > SUM_LIMIT {
          refusal = 13;
      }'
+
+# Document 02's records
+part=record.rs
+words='written read broken hand'
+compare || fail "the right model of records is not the archive's"
+
+# wrong_refusal NAME CHANGE: one that changes the refusal of a write call's fields.
+wrong_refusal() {
+    wrong "$1" 'let refusal = refusal_of_fields(&fields);' "let mut refusal = refusal_of_fields(&fields);
+     $2"
+}
+
+# wrong_told NAME TOLD: one that tests fields as if others were told.
+wrong_told() {
+    wrong_refusal "$1" "if refusal == 0 { refusal = refusal_of_fields(&Write { told: $2, ..call.clone() }.field_set()); }"
+}
+
+# Form of a record
+form='let zeros = "0".repeat(size as usize / 128);
+    format!("{sign}{:07b}{zeros}1", size % 128)'
+wrong 'sign 1 for positive values' 'value < 0' 'value > 0'
+wrong 'sign 1 for zero' 'value < 0' 'value <= 0'
+wrong 'low bits lowest first' ' size % 128)' ' (size as u8 % 128).reverse_bits() / 2)'
+wrong 'ones and a zero for zeros and a one' "$form" \
+    'let ones = "1".repeat(size as usize / 128);
+     format!("{sign}{:07b}{ones}0", size % 128)'
+wrong 'zeros and a one before the low bits' '{sign}{:07b}{zeros}1' '{sign}{zeros}1{:07b}'
+wrong 'eight low bits' "$form" \
+    'let zeros = "0".repeat(size as usize / 256);
+     format!("{sign}{:08b}{zeros}1", size % 256)'
+wrong 'n low byte first' 'self.map(), self.n)' 'self.map(), (self.n as u16).swap_bytes())'
+wrong 'positions low byte first' 'format!("{position:016b}")' 'format!("{:016b}", (*position as u16).swap_bytes())'
+wrong 'a count of two bytes' '{:08b}{positions}' '{:016b}{positions}'
+wrong 'each half padded' 'text.extend(z.iter().map(|&value| value_text(value)));' \
+    "text.extend(z.iter().map(|&value| value_text(value)));
+     text.extend(vec!['0'; text.len().wrapping_neg() % 8]);"
+wrong 'z2 before z1' '[&self.z1, &self.z2].into_iter()' '[&self.z2, &self.z1].into_iter()'
+wrong 'bytes filled from their lowest bit' 'byte.iter().fold(' 'byte.iter().rev().fold('
+wrong 'padded with ones' "text.push('0');" "text.push('1');"
+wrong 'a byte of pad where none is wanted' 'while text.len() % 8' "text.push('0');
+    while text.len() % 8"
+wrong 'bit 0 for z1, bit 1 for the challenge' 'u32::from(self.challenge.is_some()) + 2 * u32::from(self.z1.is_some())' \
+    '2 * u32::from(self.challenge.is_some()) + u32::from(self.z1.is_some())'
+
+# Bytes that are a record
+wrong 'sign 1 for positive values, read' 'if sign == 1 { -size }' 'if sign == 0 { -size }'
+wrong 'low bits lowest first, read' 'let low = self.number(7)?;' 'let low = usize::from((self.number(7)? as u8).reverse_bits() / 2);'
+wrong 'ones and a zero for zeros and a one, read' "split_once('1')" "split_once('0')"
+wrong 'n low byte first, read' 'let n = rest.number(16)?;' 'let n = usize::from((rest.number(16)? as u16).swap_bytes());'
+wrong 'each half padded, read' 'let z2 = if' \
+    'if map / 2 % 4 == 3 && rest.0.len() % 8 > 0 { rest.number(rest.0.len() % 8)?; }
+     let z2 = if'
+wrong 'z2 before z1, read' 'rest.is_pad().then_some' \
+    'let (z1, z2) = if map / 2 % 4 == 3 { (z2, z1) } else { (z1, z2) };
+     rest.is_pad().then_some'
+wrong 'minus zero is read' ' || (sign == 1 && size == 0)' ''
+wrong 'zero is not read' '(sign == 1 && size == 0)' 'size == 0'
+wrong '3,264 is read' 'size > VALUE_LIMIT' 'size > VALUE_LIMIT + 1'
+wrong '-3,264 is read' 'size > VALUE_LIMIT' 'size - sign as i32 > VALUE_LIMIT'
+wrong '3,263 is not read' 'size > VALUE_LIMIT' 'size >= VALUE_LIMIT'
+wrong 'the limit by zeros alone' 'size > VALUE_LIMIT' 'zeros.len() > 25'
+wrong '26 zeros are read' 'size > VALUE_LIMIT' '(size > VALUE_LIMIT && zeros.len() != 26)'
+wrong 'a byte may follow' 'self.0.len() < 8' 'self.0.len() <= 8'
+wrong 'any zeros may follow' 'self.0.len() < 8 && ' ''
+wrong 'the pad is not looked at' " && !self.0.contains('1')" ''
+wrong 'the first bit of the pad is not looked at' "!self.0.contains('1')" "!self.0.chars().skip(1).any(|bit| bit == '1')"
+wrong 'the last bit of the pad is not looked at' "!self.0.contains('1')" "!self.0.chars().rev().skip(1).any(|bit| bit == '1')"
+wrong 'zeros stand behind the bytes' 'let text = unpacked(bytes);' 'let text = format!("{:0<24}", unpacked(bytes));'
+wrong 'count 0 is read' 'challenge_is_right(&challenge, n).then_some' '(count == 0 || challenge_is_right(&challenge, n)).then_some'
+wrong "a position's high byte is ignored" 'Some(self.number(16)? as u32)' 'Some(self.number(16)? as u32 % 256)'
+wrong 'map bit 3 is let in' 'map > 7' 'map > 15'
+wrong 'map bit 7 is let in' 'map > 7' 'map % 128 > 7'
+wrong 'map 0 is not read' 'map > 7' 'map == 0 || map > 7'
+wrong 'degree 12 is read' '!degree_is_served(n)' '!(n == 12 || degree_is_served(n))'
+
+# Challenges of records
+wrong 'an empty challenge is taken' '!challenge.is_empty() && ' ''
+wrong '65 positions are taken' 'challenge.len() <= 64' 'challenge.len() <= 65'
+wrong '64 positions are not taken' 'challenge.len() <= 64' 'challenge.len() < 64'
+wrong 'position n is taken' '(position as usize) < n' '(position as usize) <= n'
+wrong 'position n - 1 is not taken' '(position as usize) < n' '(position as usize) + 1 < n'
+wrong 'equal positions are taken' 'pair[0] < pair[1]' 'pair[0] <= pair[1]'
+wrong 'positions may fall' 'pair[0] < pair[1]' 'pair[0] != pair[1]'
+
+# Writing a record
+values='zs.into_iter().flatten().flatten().any('
+wrong '3,264 is written' '(-VALUE_LIMIT..=VALUE_LIMIT)' '(-VALUE_LIMIT..=VALUE_LIMIT + 1)'
+wrong '-3,264 is written' '(-VALUE_LIMIT..=VALUE_LIMIT)' '(-VALUE_LIMIT - 1..=VALUE_LIMIT)'
+wrong '3,263 is not written' '(-VALUE_LIMIT..=VALUE_LIMIT)' '(-VALUE_LIMIT..VALUE_LIMIT)'
+wrong '-3,263 is not written' '(-VALUE_LIMIT..=VALUE_LIMIT)' '(1 - VALUE_LIMIT..=VALUE_LIMIT)'
+wrong 'the size of -2^31 is below the limit' '!(-VALUE_LIMIT..=VALUE_LIMIT).contains(value)' 'value.wrapping_abs() > VALUE_LIMIT'
+wrong 'values of z1 alone are tested' "$values" 'z1.iter().flatten().any('
+wrong 'values of z2 alone are tested' "$values" 'z2.iter().flatten().any('
+wrong 'a longer half is written' 'z.len() != *n' 'z.len() < *n'
+wrong 'z2 of any length' 'zs.into_iter().flatten().any(|z| z.len()' 'z1.iter().any(|z| z.len()'
+wrong_told 'the challenge is tested where it is not told' '[true, call.told[1], call.told[2]]'
+wrong_told 'z1 is tested where it is not told' '[call.told[0], true, call.told[2]]'
+wrong_told 'z2 is tested where it is not told' '[call.told[0], call.told[1], true]'
+wrong_refusal 'values of z1 are tested where it is not told' \
+    'if refusal == 0 && call.z1.iter().any(|value| value.unsigned_abs() > 3263) { refusal = 15; }'
+wrong_refusal 'map 0 is not written' 'if refusal == 0 && fields.map() == 0 { refusal = 15; }'
+wrong_refusal 'refusals 2 and 1 in the other order' \
+    'if refusal == 1 && [&fields.z1, &fields.z2].into_iter().flatten().any(Vec::is_empty) { refusal = 2; }'
+wrong_refusal 'refusals 6 and 2 in the other order' \
+    'if refusal == 2 && fields.challenge.as_ref().is_some_and(Vec::is_empty) { refusal = 6; }'
+wrong_refusal 'refusals 15 and 6 in the other order' \
+    'if refusal == 6 && [&fields.z1, &fields.z2].into_iter().flatten().flatten().any(|&value| value == i32::MAX) { refusal = 15; }'
+wrong_refusal 'refusals 14 and 15 in the other order' 'if refusal == 15 && call.out.len() < 3 { refusal = 14; }'
+wrong 'the output is asked to be just as long' 'call.out.len() < record.len()' 'call.out.len() != record.len()'
+wrong 'one byte more is asked for' 'call.out.len() < record.len()' 'call.out.len() <= record.len()'
+wrong 'half a record is written to an output that is too short' 'call.out.len() < record.len() {' \
+    'call.out.len() < record.len() {
+         let out = record[..call.out.len()].to_vec();
+         return Written { refusal: 14, length: 0, out };'
+wrong 'a refused record has a length' 'Written { refusal, length: 0,' 'Written { refusal, length: call.out.len(),'
+
+# Reading a record
+short='challenge.len() < positions || z1.len() < n1 || z2.len() < n2'
+wrong 'refusals 14 and 15 in the other order, read' 'let Some(fields) = FieldSet::of(bytes) else {' \
+    'if z1.is_empty() && bytes.first().is_some_and(|map| map / 2 % 2 == 1) { return refused(14); }
+     let Some(fields) = FieldSet::of(bytes) else {'
+wrong 'the output of z1 is tested where it is absent' 'z1.len() < n1' 'z1.len() < fields.n'
+wrong 'the output of z2 is tested where it is absent' 'z2.len() < n2' 'z2.len() < fields.n'
+wrong 'the output of the challenge is tested where it is absent' 'challenge.len() < positions' 'challenge.len() < positions.max(1)'
+wrong 'an absent z1 is written to' 'z1: at_start(z1, fields.z1.as_ref()),' \
+    'z1: if fields.z1.is_none() { vec![0; z1.len()] } else { at_start(z1, fields.z1.as_ref()) },'
+wrong 'an absent challenge is written to' 'challenge: at_start(challenge, fields.challenge.as_ref()),' \
+    'challenge: if positions == 0 { vec![0; challenge.len()] } else { at_start(challenge, fields.challenge.as_ref()) },'
+wrong 'an output for z1 is asked to be just n' 'z1.len() < n1' '(n1 > 0 && z1.len() != n1)'
+wrong 'an output for z2 is asked to be just n' 'z2.len() < n2' '(n2 > 0 && z2.len() != n2)'
+wrong 'an output of 64 positions is asked for' 'challenge.len() < positions' '(positions > 0 && challenge.len() < 64)'
+wrong 'fields before one that is too long are written' "$short {" "$short {
+         if challenge.len() >= positions {
+             return Reading { challenge: at_start(challenge, fields.challenge.as_ref()), ..refused(14) };
+         }"
+wrong 'the rest of an output is changed' 'output[..field.len()].copy_from_slice(field);' \
+    'output[..field.len()].copy_from_slice(field);
+     output[field.len()..].reverse();'
+wrong 'an absent z1 has a length' 'positions, z1: n1,' 'positions, z1: fields.n,'
+wrong 'refused, the degree is told' '..Contents::default() }' 'degree: 4, ..Contents::default() }'
 
 echo "$count wrong models, $unnoticed not noticed"
 [ "$unnoticed" -eq 0 ]

@@ -3,6 +3,7 @@
 
 mod draw;
 mod key_check;
+mod record;
 mod respond;
 
 use std::fmt::{Debug, Display};
@@ -15,6 +16,7 @@ use crate::model::Session;
 
 pub use draw::{draw, Drawn};
 pub use key_check::check_key;
+pub use record::{read_record, write_record};
 pub use respond::{respond, Responded};
 
 fn given(session: Session) -> raw::Session {

@@ -1,8 +1,12 @@
 //! Calls to compare: served ones, at the edges of every rule, and what makes them refused.
 
+pub mod breach;
 pub mod draw;
 pub mod key_check;
+pub mod record;
 pub mod respond;
+
+use std::fmt::Display;
 
 use crate::random::Random;
 
@@ -22,7 +26,7 @@ pub fn degree(random: &mut Random) -> usize {
     DEGREES[random.word().trailing_zeros().min(8) as usize]
 }
 
-/// A degree for a list of calls: of these there are fewer, so that the larger degrees are somewhat likelier.
+/// A degree for a list of calls, or a record: of these there are fewer, so that the larger degrees are somewhat likelier.
 pub fn degree_of_list(random: &mut Random) -> usize {
     if random.one_in(8) {
         random.pick(&DEGREES)
@@ -75,9 +79,14 @@ pub fn places(n: usize) -> Vec<usize> {
     }
 }
 
-/// The refusal that goes before all others of these, or 0.
-pub fn first(reasons: &[u32]) -> u32 {
-    reasons.iter().copied().min().unwrap_or(0)
+/// The first of these refusals, in the order in which they are tested, that is among the reasons, or 0.
+pub fn first(reasons: &[u32], refusals: &[u32]) -> u32 {
+    refusals.iter().copied().find(|refusal| reasons.contains(refusal)).unwrap_or(0)
+}
+
+/// Fails where a call was not refused, or served, as its reasons have it.
+pub fn assert_as_made(origin: &dyn Display, refusal: u32, reasons: &[u32], refusals: &[u32]) {
+    assert_eq!(refusal, first(reasons, refusals), "{origin}: the call is not as it was made");
 }
 
 /// The low 62 bits of a word below any top two bits.
@@ -107,6 +116,31 @@ fn spoil_polynomial(random: &mut Random, polynomial: &mut [u64]) {
         2 => *entry ^ 1 << random.below(64),
         _ => u64::MAX - *entry,
     };
+}
+
+/// A challenge that is refused at this degree.
+fn spoil_challenge(random: &mut Random, degree: usize, challenge: &mut Vec<u32>) {
+    let degree = degree as u32;
+    match (random.below(6), challenge.last().copied()) {
+        (1, Some(_)) => *challenge.last_mut().unwrap() = random.pick(&[degree, degree, degree + 1, 1 << 16, 1 << 31, u32::MAX]),
+        // Two positions are equal.
+        (2, Some(last)) => {
+            let place = random.below(challenge.len());
+            let twice = challenge[place];
+            challenge.insert(place, twice);
+            if challenge.len() > 64 || challenge.len() > degree as usize {
+                challenge.remove(if twice == last { 0 } else { challenge.len() - 1 });
+            }
+        }
+        // One falls.
+        (3, Some(_)) if challenge.len() > 1 => {
+            let place = 1 + random.below(challenge.len() - 1);
+            challenge.swap(place - 1, place);
+        }
+        // One too many, all of them ascending.
+        (4 | 5, _) => *challenge = (0..=degree.min(64)).collect(),
+        _ => challenge.clear(),
+    }
 }
 
 /// Puts values outside a bound at the first place, the last, any, or several.

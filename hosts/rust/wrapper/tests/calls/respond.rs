@@ -323,28 +323,7 @@ fn spoil_lengths(random: &mut Random, call: &mut Call) {
 
 /// A challenge that is refused, and a list that is long enough for it.
 fn spoil_challenge(random: &mut Random, call: &mut Call) {
-    let degree = call.session.degree as u32;
-    let challenge = &mut call.challenge;
-    match (random.below(6), challenge.last().copied()) {
-        (1, Some(_)) => *challenge.last_mut().unwrap() = random.pick(&[degree, degree, degree + 1, 1 << 16, 1 << 31, u32::MAX]),
-        // Two positions are equal.
-        (2, Some(last)) => {
-            let place = random.below(challenge.len());
-            let twice = challenge[place];
-            challenge.insert(place, twice);
-            if challenge.len() > 64 || challenge.len() > degree as usize {
-                challenge.remove(if twice == last { 0 } else { challenge.len() - 1 });
-            }
-        }
-        // One falls.
-        (3, Some(_)) if challenge.len() > 1 => {
-            let place = 1 + random.below(challenge.len() - 1);
-            challenge.swap(place - 1, place);
-        }
-        // One too many, all of them ascending.
-        (4 | 5, _) => *challenge = (0..=degree.min(64)).collect(),
-        _ => challenge.clear(),
-    }
+    super::spoil_challenge(random, call.session.degree, &mut call.challenge);
     let least = list_asked(call.session.degree, call.challenge.len());
     call.list.resize(least.max(call.list.len()), 0);
 }

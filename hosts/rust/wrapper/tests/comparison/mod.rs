@@ -6,7 +6,7 @@ use std::sync::atomic::{AtomicU64, Ordering::Relaxed};
 use bliss_box::raw;
 
 use crate::archive;
-use crate::model::{self, draw, key_check, respond, Session};
+use crate::model::{self, draw, key_check, record, respond, Session};
 
 /// What all parts of a run compared.
 #[derive(Default)]
@@ -17,6 +17,8 @@ pub struct Comparison {
     filled: AtomicU64,
     exponentials: AtomicU64,
     key_checks: AtomicU64,
+    records_written: AtomicU64,
+    records_read: AtomicU64,
     lists: AtomicU64,
     pairs: AtomicU64,
 }
@@ -101,6 +103,30 @@ impl Comparison {
         expected
     }
 
+    /// Writes a record with the box and with the model, and compares.
+    pub fn write_record(&self, origin: &dyn Display, call: &record::Write) -> record::Written {
+        let given = archive::write_record(origin, call);
+        let expected = record::write(call);
+        same(origin, "the refusal", &[given.refusal], &[expected.refusal]);
+        same(origin, "the length", &[given.length], &[expected.length]);
+        same(origin, "the output", &given.out, &expected.out);
+        self.records_written.fetch_add(1, Relaxed);
+        expected
+    }
+
+    /// Reads a record with the box and with the model, and compares.
+    pub fn read_record(&self, origin: &dyn Display, call: &record::Read) -> record::Reading {
+        let given = archive::read_record(origin, call);
+        let expected = record::read(call);
+        same(origin, "the refusal", &[given.contents.refusal], &[expected.contents.refusal]);
+        same(origin, "the contents", &[given.contents], &[expected.contents]);
+        same(origin, "the challenge", &given.challenge, &expected.challenge);
+        same(origin, "z1", &given.z1, &expected.z1);
+        same(origin, "z2", &given.z2, &expected.z2);
+        self.records_read.fetch_add(1, Relaxed);
+        expected
+    }
+
     /// Counts a list of calls, each of which was compared.
     pub fn count_list(&self) {
         self.lists.fetch_add(1, Relaxed);
@@ -121,6 +147,11 @@ impl Comparison {
         self.key_checks.load(Relaxed)
     }
 
+    /// The records that were written and compared with the model, and the bytes that were read and compared with it.
+    pub fn records(&self) -> u64 {
+        self.records_written.load(Relaxed) + self.records_read.load(Relaxed)
+    }
+
     /// The pairs of lists of calls that were compared with each other.
     pub fn pairs(&self) -> u64 {
         self.pairs.load(Relaxed)
@@ -133,7 +164,8 @@ impl Display for Comparison {
         write!(f, "{} draws and {} respond calls", count(&self.draws), count(&self.responds))?;
         write!(f, " ({} lists of calls among them)", count(&self.lists))?;
         write!(f, ", {} openings, {} filled parts", count(&self.openings), count(&self.filled))?;
-        write!(f, ", {} exponentials and {} key checks", count(&self.exponentials), count(&self.key_checks))?;
+        write!(f, ", {} exponentials, {} key checks", count(&self.exponentials), count(&self.key_checks))?;
+        write!(f, ", {} records written and {} read", count(&self.records_written), count(&self.records_read))?;
         write!(f, " with the model")?;
         write!(f, ", and {} pairs of lists of calls with each other", count(&self.pairs))
     }

@@ -2,16 +2,18 @@
 
 mod draw;
 mod key_check;
+mod record;
 mod respond;
 
 use std::collections::BTreeMap;
 
-use crate::calls::DEGREES;
+use crate::calls::{self, DEGREES};
 use crate::model::Session;
 use crate::run;
 
 pub use draw::REFUSALS as DRAW_REFUSALS;
 pub use key_check::REFUSALS as KEY_CHECK_REFUSALS;
+pub use record::{of_map, of_pad, READ_REFUSALS, WRITE_REFUSALS};
 pub use respond::REFUSALS as RESPOND_REFUSALS;
 pub use respond::{BY_A, BY_COSH, BY_Z, BY_Z1};
 
@@ -51,6 +53,35 @@ impl Coverage {
         self.see(format!("{what}: one less than asked for, {}", refused(fewer)), refusal == fewer && lent + 1 == asked);
     }
 
+    /// Counts a challenge that is served.
+    fn count_challenge(&mut self, n: usize, challenge: &[u32]) {
+        let positions = challenge.len();
+        self.see("one position", positions == 1);
+        self.see("64 positions", positions == 64);
+        self.see("n positions, n below 64", positions == n && n < 64);
+        self.see("position 0", challenge[0] == 0);
+        self.see("position n - 1", challenge[positions - 1] as usize == n - 1);
+    }
+
+    /// Counts what refuses a challenge.
+    fn count_wrong_challenge(&mut self, n: usize, challenge: &[u32]) {
+        let ascends = challenge.windows(2).all(|pair| pair[0] < pair[1]);
+        let below_n = challenge.iter().all(|&position| (position as usize) < n);
+        self.see("refusal 6, empty", challenge.is_empty());
+        self.see("refusal 6, 65 positions alone", challenge.len() == 65 && ascends && below_n);
+        self.see("refusal 6, n + 1 positions", challenge.len() == n + 1);
+        let length_is_right = !challenge.is_empty() && challenge.len() <= n.min(64);
+        self.see("refusal 6, position n alone", length_is_right && ascends && challenge.contains(&(n as u32)));
+        self.see(
+            "refusal 6, a greater position alone",
+            length_is_right && ascends && challenge.iter().any(|&c| c as usize > n),
+        );
+        let equal = challenge.windows(2).any(|pair| pair[0] == pair[1]);
+        let falls = challenge.windows(2).any(|pair| pair[0] > pair[1]);
+        self.see("refusal 6, equal positions alone", length_is_right && below_n && equal && !falls);
+        self.see("refusal 6, falling positions alone", length_is_right && below_n && falls && !equal);
+    }
+
     /// Counts where the values are that are outside their bounds.
     fn count_places(&mut self, refusal: &str, values: &[i32], bound: i32) {
         let outside: Vec<usize> = (0..values.len()).filter(|&place| values[place].unsigned_abs() > bound as u32).collect();
@@ -63,9 +94,9 @@ impl Coverage {
         self.see(format!("{refusal}, -{} alone", bound + 1), outside.len() == 1 && values[outside[0]] == -bound - 1);
     }
 
-    /// Counts the reasons for which a call could be refused, of the refusals that it has. The first in order refuses it.
+    /// Counts the reasons for which a call could be refused, of the refusals that it has, in their order. The first refuses it.
     pub fn count_reasons(&mut self, reasons: &[u32], refusals: &[u32]) {
-        if let Some(&first) = reasons.iter().min() {
+        if let first @ 1.. = calls::first(reasons, refusals) {
             self.see(refused_alone(first), reasons == [first]);
             for &reason in reasons.iter().filter(|&&reason| reason != first) {
                 self.count(refused_before(first, reason), 1);
@@ -104,9 +135,9 @@ pub fn at_every_degree(cases: &[&str]) -> Vec<String> {
 /// Each of these refusals, alone, and before each of the others that come after it.
 pub fn every_refusal(refusals: &[u32]) -> Vec<String> {
     let alone = refusals.iter().map(|&refusal| refused_alone(refusal));
-    let pairs = refusals.iter().flat_map(|&first| {
-        let others = refusals.iter().filter(move |&&other| other > first);
-        others.map(move |&other| refused_before(first, other))
+    let pairs = refusals.iter().enumerate().flat_map(|(place, &first)| {
+        let others = &refusals[place + 1..];
+        others.iter().map(move |&other| refused_before(first, other))
     });
     alone.chain(pairs).collect()
 }

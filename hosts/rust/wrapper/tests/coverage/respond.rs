@@ -33,7 +33,7 @@ impl Coverage {
             self.count_edges_of_words(call, response);
         }
         if refusal == 6 {
-            self.count_wrong_challenge(call);
+            self.count_wrong_challenge(call.session.degree, &call.challenge);
         }
         if refusal == 10 {
             self.count_places("refusal 10", &call.key, GREATEST_KEY);
@@ -45,15 +45,10 @@ impl Coverage {
 
     /// The challenge, the key and y at their ends.
     fn count_values(&mut self, call: &Call) {
-        let n = call.session.degree;
         let positions = call.challenge.len();
         let greatest = |values: &[i32], bound: i32| values.iter().all(|value| value.abs() == bound);
         let one_sign = |values: &[i32]| values.iter().all(|&value| value == values[0]);
-        self.see("one position", positions == 1);
-        self.see("64 positions", positions == 64);
-        self.see("n positions, n below 64", positions == n && n < 64);
-        self.see("position 0", call.challenge[0] == 0);
-        self.see("position n - 1", call.challenge[positions - 1] as usize == n - 1);
+        self.count_challenge(call.session.degree, &call.challenge);
         let greatest_key = positions == 64 && greatest(&call.key, GREATEST_KEY);
         self.see("64 positions, key at -7 and 7", greatest_key && !one_sign(&call.key));
         self.see("64 positions, key at 7", greatest_key && one_sign(&call.key) && call.key[0] > 0);
@@ -157,26 +152,6 @@ impl Coverage {
             see(2, "accepted, the last word 2 to pass", r.bit() && left + r.cosh_factor() >= right);
             see(2, "rejected by the first word 2 not to pass alone", r.tests() == BY_COSH && left < right + r.cosh_factor());
         }
-    }
-
-    fn count_wrong_challenge(&mut self, call: &Call) {
-        let n = call.session.degree;
-        let challenge = &call.challenge;
-        let ascends = challenge.windows(2).all(|pair| pair[0] < pair[1]);
-        let below_n = challenge.iter().all(|&position| (position as usize) < n);
-        self.see("refusal 6, empty", challenge.is_empty());
-        self.see("refusal 6, 65 positions alone", challenge.len() == 65 && ascends && below_n);
-        self.see("refusal 6, n + 1 positions", challenge.len() == n + 1);
-        let length_is_right = !challenge.is_empty() && challenge.len() <= n.min(64);
-        self.see("refusal 6, position n alone", length_is_right && ascends && challenge.contains(&(n as u32)));
-        self.see(
-            "refusal 6, a greater position alone",
-            length_is_right && ascends && challenge.iter().any(|&c| c as usize > n),
-        );
-        let equal = challenge.windows(2).any(|pair| pair[0] == pair[1]);
-        let falls = challenge.windows(2).any(|pair| pair[0] > pair[1]);
-        self.see("refusal 6, equal positions alone", length_is_right && below_n && equal && !falls);
-        self.see("refusal 6, falling positions alone", length_is_right && below_n && falls && !equal);
     }
 }
 

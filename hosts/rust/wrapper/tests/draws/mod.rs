@@ -11,8 +11,9 @@ pub fn draws_are_the_models(comparison: &Comparison) {
     let mut coverage = Coverage::default();
     for seed in run::seeds(1) {
         let (call, reasons) = calls::draw::any(&mut Random::new(seed));
-        let drawn = comparison.draw(&format!("BLISS_SEED={seed}"), &call);
-        assert_eq!(drawn.answer.refusal, calls::first(&reasons), "BLISS_SEED={seed}: the call is not as it was made");
+        let origin = format!("BLISS_SEED={seed}");
+        let drawn = comparison.draw(&origin, &call);
+        calls::assert_as_made(&origin, drawn.answer.refusal, &reasons, &DRAW_REFUSALS);
         coverage.count_draw(&call, &drawn);
         coverage.count_reasons(&reasons, &DRAW_REFUSALS);
     }

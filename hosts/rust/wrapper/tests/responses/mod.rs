@@ -13,8 +13,9 @@ pub fn responses_are_the_models(comparison: &Comparison) {
     let mut coverage = Coverage::default();
     for seed in run::seeds(1) {
         let (call, reasons) = calls::respond::any(&mut Random::new(seed));
-        let responded = comparison.respond(&format!("BLISS_SEED={seed}"), &call);
-        assert_eq!(responded.answer.refusal, calls::first(&reasons), "BLISS_SEED={seed}: the call is not as it was made");
+        let origin = format!("BLISS_SEED={seed}");
+        let responded = comparison.respond(&origin, &call);
+        calls::assert_as_made(&origin, responded.answer.refusal, &reasons, &RESPOND_REFUSALS);
         coverage.count_respond(&call, &responded);
         coverage.count_reasons(&reasons, &RESPOND_REFUSALS);
     }

@@ -8,6 +8,7 @@ mod key_check;
 mod open;
 mod owned;
 mod read_list;
+mod record;
 mod refusal;
 mod respond;
 mod secret;

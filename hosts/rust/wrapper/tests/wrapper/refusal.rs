@@ -26,6 +26,9 @@ fn refusals_carry_their_number() {
     assert_eq!(Refusal::Exponential.to_string(), "refusal 12: N is above 5534960");
     assert_eq!(Refusal::KeySum.to_string(), "refusal 13: the final sum of the key check is above 46225");
     assert_eq!(Refusal::Output.to_string(), "refusal 14: the output is too short for the record, or for one of its fields");
-    assert_eq!(Refusal::Record.to_string(), "refusal 15: a value to be recorded is outside -3263 to 3263, or the bytes are no record");
+    assert_eq!(
+        Refusal::Record.to_string(),
+        "refusal 15: a value to be recorded is outside -3263 to 3263, or the bytes are no record"
+    );
     assert_eq!(Refusal::Unknown(16).to_string(), "refusal 16: it has no name here");
 }
