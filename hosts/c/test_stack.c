@@ -59,6 +59,56 @@ static void make_key_check_and_wipe(void)
     wipe_stack();
 }
 
+/* The longest record: all values are of the largest size. */
+static struct {
+    uint32_t challenge[64];
+    int32_t z[1024];
+    uint8_t bytes[BLISS_RECORD_BYTES(1024, 64)];
+} record;
+
+static void prepare_record(void)
+{
+    for (size_t i = 0; i < 64; i++)
+        record.challenge[i] = (uint32_t)i;
+    for (size_t i = 0; i < 1024; i++)
+        record.z[i] = i % 2 == 0 ? BLISS_VALUE_LIMIT : -BLISS_VALUE_LIMIT;
+}
+
+static bliss_written written_record(size_t length)
+{
+    bliss_fields all = {true, true, true};
+
+    return bliss_write_record(1024, all, record.challenge, 64, record.z, 1024, record.z, 1024, record.bytes, length);
+}
+
+static bliss_contents read_record(size_t length)
+{
+    static uint32_t challenge[64];
+    static int32_t z1[1024], z2[1024];
+
+    return bliss_read_record(record.bytes, length, challenge, 64, z1, 1024, z2, 1024);
+}
+
+static void write_record(void)
+{
+    as_chosen &= written_record(sizeof record.bytes).length == sizeof record.bytes;
+}
+
+static void write_refused_record(void)
+{
+    as_chosen &= written_record(sizeof record.bytes - 1).refusal == BLISS_REFUSED_OUTPUT;
+}
+
+static void read_whole_record(void)
+{
+    as_chosen &= read_record(sizeof record.bytes).map == 7;
+}
+
+static void read_refused_record(void)
+{
+    as_chosen &= read_record(sizeof record.bytes - 1).refusal == BLISS_REFUSED_RECORD;
+}
+
 static void make_other_calls(void)
 {
     as_chosen &= bliss_version() == BLISS_BOX_VERSION;
@@ -174,6 +224,11 @@ int main(void)
     measure_response("response, refusal 9", 0, BLISS_REFUSED_NOT_DRAWN);
     measure_response("response, refusal 10", 0, BLISS_REFUSED_KEY);
     measure_response("response, refusal 11", 0, BLISS_REFUSED_Y);
+    prepare_record();
+    measure("record written", write_record);
+    measure("record written, refusal 14", write_refused_record);
+    measure("record read", read_whole_record);
+    measure("record read, refusal 15", read_refused_record);
     measure("other calls", make_other_calls);
     within = is_within("calls but the key check", BLISS_STACK_BYTES);
     measure_key_check("key check, passed", (struct key_check){1024, 64, BLISS_SERVED, 1, 2});
