@@ -30,15 +30,24 @@ pub fn read() -> Result<Option<Command>, Failure> {
     Ok(Some(Program::from_arg_matches(&matches)?.command))
 }
 
-/// Looks at the files of a command line. Standard input can be read once, and no file is both read and written.
+/// Looks at the files of a command line. Standard input and output can be one file each, and no file is both read and written.
 fn check_files(program: &mut clap::Command, matches: &ArgMatches) -> Result<(), Failure> {
-    let (command, matches) = matches.subcommand().expect("a command line without a command is an error");
-    let command = program.find_subcommand_mut(command).expect("another command is an error");
-    let inputs = given::<InputPath>(command, matches);
-    if inputs.iter().filter(|(_, path)| path.is_standard()).count() > 1 {
-        return Err(command.error(ErrorKind::ArgumentConflict, "standard input can be one file alone").into());
+    let (mut command, mut matches) = (program, matches);
+    while let Some((name, below)) = matches.subcommand() {
+        command = command.find_subcommand_mut(name).expect("another command is an error");
+        matches = below;
     }
-    same_file::check(&inputs, &given::<OutputPath>(command, matches))
+    let (inputs, outputs) = (given::<InputPath>(command, matches), given::<OutputPath>(command, matches));
+    for (stream, files) in [
+        ("input", inputs.iter().filter(|(_, path)| path.is_standard()).count()),
+        ("output", outputs.iter().filter(|(_, path)| path.is_standard()).count()),
+    ] {
+        if files > 1 {
+            let problem = format!("standard {stream} can be one file alone");
+            return Err(command.error(ErrorKind::ArgumentConflict, problem).into());
+        }
+    }
+    same_file::check(&inputs, &outputs)
 }
 
 /// The values of a type on a command line, each with the name of its argument.

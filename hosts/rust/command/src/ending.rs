@@ -19,7 +19,7 @@ impl Status {
     /// What the help and the manual page say of it.
     pub fn meaning(self) -> &'static str {
         match self {
-            Status::Served => "served: the draw is full, the response is accepted, the key passes",
+            Status::Served => "served: a full draw, an accepted response, a key that passes, a record written or read",
             Status::Refused => "the box refused, a file or a value is bad, or the output could not be written",
             Status::Usage => "the command line is wrong",
             Status::Unserved => "the draw is spent, or every try of a response was rejected",

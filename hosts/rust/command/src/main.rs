@@ -1,5 +1,5 @@
-//! The command-line program bliss-box: draws noise and answers challenges from files, checks keys, prints the exponential,
-//! explains read lists, and shows a draw and a response.
+//! The command-line program bliss-box: draws noise and answers challenges from files, checks keys, writes and reads records,
+//! prints the exponential, explains read lists, and shows a draw and a response.
 
 mod arguments;
 mod command_line;

@@ -1,8 +1,8 @@
-//! What is written: results to standard output, what is said beside them to standard error, and read lists to files.
+//! What is written: results to standard output, what is said beside them to standard error, and the rest to files.
 
 use std::fmt::Display;
 use std::fs::File;
-use std::io::{self, ErrorKind, Write};
+use std::io::{self, ErrorKind, IsTerminal, Write};
 use std::os::fd::AsFd;
 use std::sync::atomic::{AtomicBool, Ordering};
 
@@ -61,57 +61,94 @@ pub fn print(text: impl AsRef<[u8]>) -> Result<(), Failure> {
     }
 }
 
-/// Where the read lists of a command go.
-pub enum Lists {
-    Nowhere,
-    /// To standard output, in place of the numbers that the command prints.
+/// Looks whether standard output takes bytes that are no text. A terminal would act on them.
+pub fn check_takes_bytes() -> Result<(), Failure> {
+    if io::stdout().is_terminal() {
+        return Err(Failure::at("standard output", "it is a terminal, and a record is no text: send it to a file"));
+    }
+    Ok(())
+}
+
+/// Where something goes that a command makes besides what it prints.
+pub enum Target {
+    /// To standard output, in place of what the command prints.
     Standard,
     File(OutputFile),
 }
 
+impl Target {
+    pub fn create(path: &OutputPath) -> Result<Target, Failure> {
+        Ok(if path.is_standard() { Target::Standard } else { Target::File(OutputFile::create(path)?) })
+    }
+}
+
+/// What a command has made.
+pub struct Delivery {
+    printed: Secret<u8>,
+    files: Vec<OutputFile>,
+}
+
+impl Delivery {
+    /// What it prints.
+    pub fn of(printed: Secret<u8>) -> Delivery {
+        Delivery { printed, files: Vec::new() }
+    }
+
+    /// Adds what goes to a target of its own.
+    pub fn add(&mut self, target: Target, bytes: Secret<u8>) -> Result<(), Failure> {
+        match target {
+            Target::Standard => self.printed = bytes,
+            Target::File(mut file) => {
+                file.write(&bytes)?;
+                self.files.push(file);
+            }
+        }
+        Ok(())
+    }
+
+    /// Prints, and puts the files in their places. All of these are on the disk before, so that nothing but the replacing is left
+    /// that could fail.
+    pub fn deliver(self) -> Result<(), Failure> {
+        self.files.iter().try_for_each(OutputFile::sync)?;
+        print(&*self.printed)?;
+        self.files.into_iter().try_for_each(OutputFile::keep)
+    }
+}
+
+/// Where the read lists of a command go, if they are asked for. They are written call by call.
+pub struct Lists(Option<Target>);
+
 impl Lists {
     pub fn of(path: Option<&OutputPath>) -> Result<Lists, Failure> {
-        Ok(match path {
-            None => Lists::Nowhere,
-            Some(path) if path.is_standard() => Lists::Standard,
-            Some(path) => Lists::File(OutputFile::create(path)?),
-        })
+        Ok(Lists(path.map(Target::create).transpose()?))
     }
 
     /// Adds the entries of calls, one a line.
     pub fn add(&mut self, list: &[u32]) -> Result<(), Failure> {
-        match self {
-            Lists::Nowhere => Ok(()),
-            Lists::Standard => print_lines(list),
-            Lists::File(file) => with_lines(list, |text| file.write(text)),
+        match &mut self.0 {
+            None => Ok(()),
+            Some(Target::Standard) => print(&*lines(list)),
+            Some(Target::File(file)) => file.write(&lines(list)),
         }
     }
 
-    /// Prints numbers, one a line, and keeps the lists.
-    pub fn deliver(self, numbers: &[i32]) -> Result<(), Failure> {
-        match self {
-            Lists::Nowhere => print_lines(numbers),
-            Lists::Standard => Ok(()),
-            Lists::File(file) => {
-                file.sync()?;
-                print_lines(numbers)?;
-                file.keep()
-            }
+    /// Delivers the lists with the rest.
+    pub fn deliver(self, mut delivery: Delivery) -> Result<(), Failure> {
+        match self.0 {
+            None => {}
+            Some(target) => delivery.add(target, Secret::zeroed(0))?,
         }
+        delivery.deliver()
     }
 }
 
-fn print_lines<T: Display>(numbers: &[T]) -> Result<(), Failure> {
-    with_lines(numbers, |text| print(text))
-}
-
-/// Writes 32-bit numbers, one a line. The text of noise is as secret as the noise.
-fn with_lines<T: Display>(numbers: &[T], write: impl FnOnce(&[u8]) -> Result<(), Failure>) -> Result<(), Failure> {
+/// The text of 32-bit numbers, one a line. That of noise is as secret as the noise.
+pub fn lines<T: Display>(numbers: &[T]) -> Secret<u8> {
     let mut text = Secret::zeroed(LONGEST_LINE * numbers.len());
     let mut room = &mut text[..];
     for number in numbers {
         writeln!(room, "{number}").expect("a line is at most the longest");
     }
     let left = room.len();
-    write(&text[..text.len() - left])
+    Secret::from(text[..text.len() - left].to_vec())
 }

@@ -20,7 +20,7 @@ const ABOUT: &str = "\
 The BLISS-I sampling box from the command line
 
 Draws the noise of BLISS-I signatures from random words, and turns noise, key and challenge into a response or a rejection. \
-Tells whether a key can always sign.";
+Tells whether a key can always sign, and stores signatures.";
 
 /// What the help of a command says last that reads files.
 pub const SEE_FILES: &str = "bliss-box --help says what files hold, and what each exit status means.";
@@ -28,10 +28,10 @@ pub const SEE_FILES: &str = "bliss-box --help says what files hold, and what eac
 /// What files hold, and how they are written.
 pub const FILES: [&str; 2] = [
     "Files hold whole numbers in decimal, one a line. Blank lines and lines that start with # are skipped, so that a table may \
-     say what it is. A value with a comma or a point in it is refused. A file named - is standard input. No message shows a \
-     value of a key or a word.",
-    "A file that is written must be none of those that are read. It is put in its place once it is whole, and only its owner \
-     may read it.",
+     say what it is. A value with a comma or a point in it is refused. The record of a signature is bytes, and no text. A file \
+     named - is standard input. No message shows a value of a key or a word.",
+    "A file that is written must be none of the others. It is put in its place once it is whole, and only its owner may read \
+     it. One named - is standard output, where it stands in place of what would be printed.",
 ];
 
 /// What is printed where the status is not 0.

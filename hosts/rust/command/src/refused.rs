@@ -1,7 +1,7 @@
 //! Why the box refused a call, said of what the command line lent to it. The box says which rule was broken; where it was broken
 //! is looked for here, after the refusal, and only in what is public.
 
-use bliss_box::{challenge_limit, Refusal};
+use bliss_box::{challenge_limit, Refusal, VALUE_LIMIT};
 
 use crate::ending::Failure;
 use crate::files::Table;
@@ -80,4 +80,10 @@ pub fn broken_challenge(challenge: &Table<u32>, n: usize) -> Option<Breach> {
 /// Refusal 7: a file that has too few words left for a call.
 pub fn too_few_words(words: &Words, call: &str, wanted: usize, left: usize) -> Option<Breach> {
     Some(Breach::new(words.file_name()?, format!("{call} wants {wanted} words, and it has {left} left")))
+}
+
+/// Refusal 15 of a record that is written: a value of z1 or z2 that is too large. These are public.
+pub fn large_value(z: &Table<i32>) -> Option<Breach> {
+    let index = z.numbers().iter().position(|value| !(-VALUE_LIMIT..=VALUE_LIMIT).contains(value))?;
+    Some(Breach::on_line(z, index, format!("{} is outside -{VALUE_LIMIT} to {VALUE_LIMIT}", z.numbers()[index])))
 }

@@ -5,7 +5,7 @@ use clap::Args;
 
 use crate::drawing::{self, DrawOptions};
 use crate::ending::{Failure, Status};
-use crate::output;
+use crate::output::{self, Delivery};
 use crate::program::SEE_FILES;
 
 /// Draws the noise of one signature.
@@ -32,7 +32,7 @@ impl Draw {
             OwnedDraw::Spent(spent) => (&[][..], &spent.list[..], Status::Unserved),
         };
         lists.add(list)?;
-        lists.deliver(samples)?;
+        lists.deliver(Delivery::of(output::lines(samples)))?;
         output::say(&drawing::summary(&drawn));
         Ok(status)
     }

@@ -41,9 +41,7 @@ fn page(mut program: clap::Command) -> String {
         put_argument(&mut page, argument);
     }
     page.control("SH", ["COMMANDS"]);
-    for command in program.get_subcommands_mut() {
-        put_command(&mut page, command);
-    }
+    put_commands(&mut page, &mut program, "");
     page.control("SH", ["FILES"]);
     put_paragraphs(&mut page, &FILES.join("\n\n"), "PP");
     page.control("SH", ["EXIT STATUS"]);
@@ -56,9 +54,21 @@ fn page(mut program: clap::Command) -> String {
     page.render()
 }
 
+/// The commands below one, each under its name and the words before it, with those below it. The command help has all of them
+/// once more.
+fn put_commands(page: &mut Roff, above: &mut clap::Command, words: &str) {
+    for command in above.get_subcommands_mut() {
+        let name = format!("{words}{}", command.get_name());
+        put_command(page, command, &name);
+        if name != "help" {
+            put_commands(page, command, &format!("{name} "));
+        }
+    }
+}
+
 /// A command without its option --help, which stands among those of the program.
-fn put_command(page: &mut Roff, command: &mut clap::Command) {
-    page.control("SS", [command.get_name()]);
+fn put_command(page: &mut Roff, command: &mut clap::Command, name: &str) {
+    page.control("SS", [name]);
     put_usage(page, command);
     page.control("PP", []);
     put_paragraphs(page, &text(command.get_long_about().or(command.get_about())), "PP");
@@ -147,10 +157,13 @@ mod tests {
             let argument = || Arg::new("x").long("x").value_name(text).help(text).long_help(format!("{text}\n\n{text}"));
             let command = clap::Command::new("y").about(text).long_about(format!("{text}\n\n{text}"));
             let about = format!("{text}\n\n{text}\n\n{text}");
-            page(clap::Command::new("z").about(about).arg(argument()).subcommand(command.arg(argument())))
+            let command = command.arg(argument()).subcommand(clap::Command::new("w").about(text).arg(argument()));
+            page(clap::Command::new("z").about(about).arg(argument()).subcommand(command))
         };
         let plain = described("text");
-        assert!(requests(&plain).contains(&".TP") && requests(&plain).contains(&".SS y"));
+        for request in [".TP", ".SS y", ".SS \"y w\""] {
+            assert!(requests(&plain).contains(&request), "{plain}");
+        }
         for text in [".so file", "'so file", "a\n.so file", "a\n'so file", ".."] {
             assert_eq!(requests(&described(text)), requests(&plain), "{text}");
         }

@@ -8,6 +8,7 @@ mod draw;
 mod exp;
 mod list;
 mod manual;
+mod record;
 mod respond;
 
 use clap::Subcommand;
@@ -19,6 +20,7 @@ pub enum Command {
     Draw(draw::Draw),
     Respond(respond::Respond),
     CheckKey(check_key::CheckKey),
+    Record(record::Record),
     Exp(exp::Exp),
     List(list::List),
     Demo(demo::Demo),
@@ -32,6 +34,7 @@ impl Command {
             Command::Draw(draw) => draw.run(),
             Command::Respond(respond) => respond.run(),
             Command::CheckKey(check_key) => check_key.run(),
+            Command::Record(record) => record.run(),
             Command::Exp(exp) => exp.run(),
             Command::List(list) => list.run(),
             Command::Demo(demo) => demo.run(),

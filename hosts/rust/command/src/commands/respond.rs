@@ -1,13 +1,14 @@
 //! `bliss-box respond`: draws noise, and answers a challenge with it and a key.
 
-use bliss_box::{challenge_limit, sample_count, CallError, OwnedDraw, Refusal, Secret, Session, POLYNOMIAL, RESPOND_WORDS};
+use bliss_box::{challenge_limit, sample_count, CallError, OwnedDraw, Record, Refusal, Secret, Session};
+use bliss_box::{POLYNOMIAL, RESPOND_WORDS};
 use clap::{Args, ValueHint};
 
 use crate::arguments::whole_number;
 use crate::drawing::{self, DrawOptions, Drawing};
 use crate::ending::{Failure, Status};
-use crate::files::{InputPath, NumberFile, Table};
-use crate::output;
+use crate::files::{InputPath, NumberFile, OutputPath, Table};
+use crate::output::{self, Delivery, Target};
 use crate::program::SEE_FILES;
 use crate::refused;
 
@@ -39,6 +40,13 @@ pub struct Respond {
     #[arg(long, value_name = "T", default_value_t = TRIES)]
     #[arg(value_parser = whole_number::<usize>(), allow_negative_numbers = true)]
     tries: usize,
+
+    /// Stores the challenge and the response there, as the record of a signature
+    ///
+    /// bliss-box record read reads it. Both halves of the response are stored as they are: none is rounded. - writes the record to
+    /// standard output, in place of the response. Where no try is accepted, the file is not written.
+    #[arg(long, value_name = "FILE", value_hint = ValueHint::FilePath)]
+    record: Option<OutputPath>,
 
     #[command(flatten)]
     options: DrawOptions,
@@ -89,6 +97,16 @@ impl Responding {
         Ok(Try { session: responded.session, z: responded.z.map(Secret::from), list, summary })
     }
 
+    /// The record of a response. That is secret until it is printed, and so are its copies.
+    fn record(&self, z: &[i32]) -> Result<Secret<u8>, Failure> {
+        let (z1, z2) = z.split_at(z.len() / 2);
+        let [z1, z2] = [z1, z2].map(|half| Some(half.to_vec()));
+        let record = Record { degree: z.len() / 2, challenge: Some(self.challenge.numbers().to_vec()), z1, z2 };
+        let bytes = record.to_bytes().map(Secret::from);
+        drop([record.z1, record.z2].map(|half| half.map(Secret::from)));
+        Ok(bytes?)
+    }
+
     /// A refused response that was lent so many words, and what was wrong with what the command line gave it.
     fn refused(&self, refusal: Refusal, n: usize, words: usize) -> Failure {
         let breach = match refusal {
@@ -108,6 +126,9 @@ impl Respond {
         if self.tries == 0 {
             return Err(Failure::at("--tries 0", "without a try there is no response"));
         }
+        if self.record.as_ref().is_some_and(OutputPath::is_standard) {
+            output::check_takes_bytes()?;
+        }
         let mut session = self.options.open()?;
         let n = session.degree();
         let mut responding = Responding {
@@ -116,17 +137,22 @@ impl Respond {
             challenge: Table::read(NumberFile::public(&self.challenge)?, challenge_limit(n))?,
         };
         let mut lists = self.options.lists()?;
+        let record = self.record.as_ref().map(Target::create).transpose()?;
         for number in 1..=self.tries {
             let tried = responding.once(session)?;
             session = tried.session;
             output::say(&format!("try {number}: {}", tried.summary));
             lists.add(&tried.list)?;
             if let Some(z) = tried.z {
-                lists.deliver(&z)?;
+                let mut delivery = Delivery::of(output::lines(&z));
+                if let Some(target) = record {
+                    delivery.add(target, responding.record(&z)?)?;
+                }
+                lists.deliver(delivery)?;
                 return Ok(Status::Served);
             }
         }
-        lists.deliver(&[])?;
+        lists.deliver(Delivery::of(Secret::zeroed(0)))?;
         output::say(&format!("no response accepted: tries {}. {NEVER_ACCEPTED}", self.tries));
         Ok(Status::Unserved)
     }

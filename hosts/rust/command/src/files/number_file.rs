@@ -1,14 +1,11 @@
 //! Files of whole numbers in decimal, one a line. Blank lines and lines that start with # are skipped.
 
 use std::fmt::Display;
-use std::fs::File;
-use std::io::{self, ErrorKind, Read};
-use std::os::fd::AsFd;
 use std::str;
 
 use bliss_box::Secret;
 
-use super::InputPath;
+use super::{InputFile, InputPath};
 use crate::ending::Failure;
 use crate::numbers::{shown, whole_of_line, Whole};
 
@@ -23,10 +20,9 @@ const BYTE_ORDER_MARK: char = '\u{feff}';
 
 /// A file of whole numbers, read one by one. Its text may be secret, so all memory for it is wiped.
 pub struct NumberFile {
-    name: String,
+    file: InputFile,
     /// Whether no message may show what is in it.
     is_secret: bool,
-    file: File,
     chunk: Secret<u8>,
     next: usize,
     end: usize,
@@ -46,20 +42,13 @@ impl NumberFile {
     }
 
     fn open(path: &InputPath, is_secret: bool) -> Result<NumberFile, Failure> {
-        let name = if path.is_standard() { "standard input".into() } else { path.shown().into_owned() };
-        let file = if path.is_standard() {
-            // Not through std's handle, which has a buffer that nobody wipes.
-            io::stdin().as_fd().try_clone_to_owned().map(File::from)
-        } else {
-            File::open(path)
-        };
-        let file = file.map_err(|error| unreadable(&name, &error))?;
+        let file = InputFile::open(path)?;
         let (chunk, line) = (Secret::zeroed(1 << 16), Secret::zeroed(LONGEST_LINE));
-        Ok(NumberFile { name, is_secret, file, chunk, next: 0, end: 0, line, line_number: 0 })
+        Ok(NumberFile { file, is_secret, chunk, next: 0, end: 0, line, line_number: 0 })
     }
 
     pub fn name(&self) -> &str {
-        &self.name
+        self.file.name()
     }
 
     /// The next number of the file.
@@ -95,25 +84,19 @@ impl NumberFile {
 
     /// A failure at the last line that was read.
     fn here(&self, problem: impl Display) -> Failure {
-        Failure::at(format!("{}:{}", self.name, self.line_number), problem)
+        Failure::at(format!("{}:{}", self.name(), self.line_number), problem)
     }
 
     fn byte(&mut self) -> Result<Option<u8>, Failure> {
         while self.next == self.end {
-            match self.file.read(&mut self.chunk) {
-                Ok(0) => return Ok(None),
-                Ok(count) => (self.next, self.end) = (0, count),
-                Err(error) if error.kind() == ErrorKind::Interrupted => {}
-                Err(error) => return Err(unreadable(&self.name, &error)),
+            match self.file.read(&mut self.chunk)? {
+                0 => return Ok(None),
+                count => (self.next, self.end) = (0, count),
             }
         }
         self.next += 1;
         Ok(Some(self.chunk[self.next - 1]))
     }
-}
-
-fn unreadable(name: &str, error: &io::Error) -> Failure {
-    Failure::at(name, format!("cannot be read: {error}"))
 }
 
 /// A file without a number, which is no table and no list.
@@ -140,8 +123,8 @@ impl<T: Whole> Table<T> {
             lines.push(file.line_number);
         }
         match lines.len() {
-            0 => Err(empty(&file.name)),
-            _ => Ok(Table { name: file.name, numbers, lines }),
+            0 => Err(empty(file.name())),
+            _ => Ok(Table { name: file.name().to_owned(), numbers, lines }),
         }
     }
 

@@ -92,7 +92,7 @@ fn names_a_file(path: &Path) -> bool {
 }
 
 /// Where a path leads whose links end at a file that is not there yet.
-fn end_of_links(path: &Path) -> PathBuf {
+pub fn end_of_links(path: &Path) -> PathBuf {
     match fs::read_link(path) {
         Ok(link) => end_of_links(&path.with_file_name(link)),
         Err(_) => path.to_owned(),

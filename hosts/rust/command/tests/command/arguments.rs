@@ -17,14 +17,18 @@ fn help_is_printed() {
     assert!(short.starts_with("The BLISS-I sampling box from the command line\n"));
     assert!(short.contains("\nExit status:\n  0  served"));
     assert_eq!([&short, &short], [&long, &by_command]);
-    assert!(commands()
-        .starts_with(&["draw", "respond", "check-key", "exp", "list", "demo", "completions", "manual"].map(String::from)));
+    let commands = commands().join(", ");
+    assert!(
+        commands.starts_with("draw, respond, check-key, record, record write, record read, exp, list, demo, "),
+        "{commands}"
+    );
+    assert!(commands.ends_with(", completions, manual"), "{commands}");
 }
 
 #[test]
 fn each_command_has_help() {
     for command in commands() {
-        let [short, long, by_command] = helps(&[&command]);
+        let [short, long, by_command] = helps(&calling(&command, &[]));
         assert!(short.contains(&format!("\nUsage: bliss-box {command}")), "{short}");
         assert!(long.contains(&format!("\nUsage: bliss-box {command}")), "{long}");
         assert!(short.len() < long.len() && long == by_command, "{by_command}");
@@ -39,12 +43,18 @@ fn each_command_has_help() {
 fn each_option_is_in_the_help() {
     let drawing = ["--degree", "--limit", "--cdt", "--words", "--list"];
     assert_eq!(options("draw"), drawing);
-    assert_eq!(options("respond"), [&["--key", "--challenge", "--tries"], &drawing[..]].concat());
+    assert_eq!(options("respond"), [&["--key", "--challenge", "--tries", "--record"], &drawing[..]].concat());
     assert_eq!(options("check-key"), ["--length", "--degree"]);
+    assert_eq!(options("record write"), ["--degree", "--challenge", "--z1", "--z2"]);
+    assert_eq!(options("record read"), ["--challenge", "--z1", "--z2"]);
     assert_eq!(options("demo"), ["--degree"]);
     for command in commands() {
         for option in options(&command) {
-            wrong(&[&command, &option], &format!("The argument '{option} <"), "requires a value but none was supplied");
+            wrong(
+                &calling(&command, &[&option]),
+                &format!("The argument '{option} <"),
+                "requires a value but none was supplied",
+            );
         }
     }
 }
@@ -114,6 +124,8 @@ fn wrong(arguments: &[&str], start: &str, end: &str) {
 fn wrong_command_lines_are_explained() {
     wrong(&[], "'bliss-box' requires a subcommand", "[subcommands: draw, respond, ");
     wrong(&["sign"], "The subcommand 'sign'", "wasn't recognized");
+    wrong(&["record"], "'bliss-box record' requires a subcommand", "[subcommands: write, read]");
+    wrong(&["record", "copy"], "The subcommand 'copy'", "wasn't recognized");
     for (arguments, unexpected) in [
         (&["--degree", "4"][..], "--degree"),
         (&["draw", "--tries", "4"], "--tries"),
@@ -126,12 +138,19 @@ fn wrong_command_lines_are_explained() {
         (&["list", "a", "b"], "b"),
         (&["check-key", "--length", "23", "a", "b"], "b"),
         (&["demo", "--limit", "4"], "--limit"),
+        (&["record", "--degree", "4"], "--degree"),
+        (&["record", "write", "sig.bin"], "sig.bin"),
+        (&["record", "read", "sig.bin", "--degree", "4"], "--degree"),
     ] {
         wrong(arguments, &format!("Found argument '{unexpected}'"), "which wasn't expected");
     }
     wrong(&["draw", "--degree", "--limit", "8"], "The argument '--degree <N>'", "requires a value but none was supplied");
     wrong(&["draw", "--degree", "4", "--degree=4"], "The argument '--degree <N>'", "was provided more than once");
     wrong(&["draw", "--cdt", "-", "--words", "-"], "standard input can be one file alone", "");
+    wrong(&["record", "write", "--z1", "-", "--z2", "-"], "standard input can be one file alone", "");
+    wrong(&["record", "read", "-", "--z1", "-", "--z2", "-"], "standard output can be one file alone", "");
+    let respond = ["respond", "--key", "k", "--challenge", "c", "--list", "-", "--record", "-"];
+    wrong(&respond, "standard output can be one file alone", "");
     let missing = "The following required arguments were not provided:\n";
     wrong(&["respond", "--key", "k"], missing, "\n  --challenge <FILE>");
     wrong(&["respond", "--degree", "12", "--challenge", "c"], missing, "\n  --key <FILE>");
@@ -139,6 +158,7 @@ fn wrong_command_lines_are_explained() {
     wrong(&["list"], missing, "\n  <FILE>");
     wrong(&["check-key", "k"], missing, "\n  --length <K>");
     wrong(&["check-key", "--length", "23"], missing, "\n  <FILE>");
+    wrong(&["record", "read"], missing, "\n  <FILE>");
 }
 
 #[test]

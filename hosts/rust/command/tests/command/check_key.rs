@@ -19,7 +19,7 @@ fn the_sum_of_a_key_that_passes_is_printed() {
     for (length, sum) in [(1, 44), (2, 104), (3, 172)] {
         let with = ["check-key", "--degree", "4", "--length", &length.to_string()];
         assert_eq!(printed(&[&with[..], &[&key]].concat()), passes(length, sum));
-        let ran = run_with(&lines(&KNOWN), &[&with[..], &["-"]].concat());
+        let ran = run_with(lines(&KNOWN), &[&with[..], &["-"]].concat());
         assert_eq!((ran.status, ran.out, ran.err.as_str()), (0, passes(length, sum), ""));
     }
     let zero = file("zero-key", format!("# s1 and s2\n{}", lines(&[0; 1024])));

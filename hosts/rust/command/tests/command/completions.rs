@@ -20,9 +20,15 @@ fn bash_completes_commands_options_and_files() {
     assert_eq!(offered(&["bliss-box", "draw", "--tr"]), "");
     assert_eq!(offered(&["bliss-box", "check"]), "check-key");
     assert_eq!(offered(&["bliss-box", "check-key", "--l"]), "--length");
+    assert_eq!(offered(&["bliss-box", "rec"]), "record");
+    assert_eq!(offered(&["bliss-box", "record", "wr"]), "write");
+    assert_eq!(offered(&["bliss-box", "record", "write", "--z"]), "--z1 --z2");
+    assert_eq!(offered(&["bliss-box", "record", "read", "--d"]), "");
+    assert_eq!(offered(&["bliss-box", "help", "record", "re"]), "read");
     assert_eq!(offered(&["bliss-box", "completions", "po"]), "powershell");
     let list = file("completed-list", "");
     assert_eq!(offered(&["bliss-box", "draw", "--list", &list[..list.len() - 4]]), list);
+    assert_eq!(offered(&["bliss-box", "record", "read", "--z2", &list[..list.len() - 4]]), list);
 }
 
 #[test]
@@ -30,7 +36,7 @@ fn each_shell_knows_each_command_and_option() {
     for shell in ["bash", "elvish", "fish", "powershell", "zsh"] {
         let script = printed(&["completions", shell]);
         for command in commands() {
-            assert!(script.contains(&command), "{shell} {command}");
+            assert!(script.contains(command.rsplit(' ').next().unwrap()), "{shell} {command}");
             for option in options(&command) {
                 // fish writes an option without its dashes.
                 assert!(script.contains(&option) || script.contains(&format!("-l {}", &option[2..])), "{shell} {option}");
@@ -42,8 +48,8 @@ fn each_shell_knows_each_command_and_option() {
 /// A file's name is completed where a value is a file: zsh is told so for each.
 #[test]
 fn each_file_is_completed_as_a_file() {
-    let helps: String = commands().iter().map(|command| printed(&[command, "-h"])).collect();
+    let helps: String = commands().iter().map(|command| short_help(command)).collect();
     let files = helps.lines().filter(|line| line.starts_with(' ') && line.contains("<FILE>")).count();
-    assert!(files >= 9, "{helps}");
+    assert!(files >= 17, "{helps}");
     assert_eq!(printed(&["completions", "zsh"]).matches(":_files'").count(), files);
 }

@@ -5,13 +5,16 @@ use bliss_box::{draw_limit, CDT};
 use super::*;
 
 /// Command lines that read a file, each up to the file's name.
-fn reading(name: &str) -> [Vec<String>; 6] {
+fn reading(name: &str) -> [Vec<String>; 9] {
     let [key, challenge] = key_and_challenge(name);
     let run = |arguments: &[&str]| arguments.iter().copied().map(String::from).collect();
     [
         run(&["draw", "--degree", "4", "--cdt"]),
         run(&["respond", "--degree", "4", "--key", &key, "--challenge"]),
         run(&["list"]),
+        run(&["record", "write", "--degree", "4", "--challenge"]),
+        run(&["record", "write", "--degree", "4", "--z1"]),
+        run(&["record", "write", "--degree", "4", "--z2"]),
         run(&["draw", "--degree", "4", "--words"]),
         run(&["respond", "--degree", "4", "--challenge", &challenge, "--key"]),
         run(&["check-key", "--degree", "4", "--length", "1"]),
@@ -29,9 +32,10 @@ const SEVERAL: &str = "several numbers on one line; one a line is wanted";
 
 #[test]
 fn bad_values_in_public_files_are_shown_with_their_line() {
-    let [cdt, challenge, list, ..] = reading("bad");
-    let ranges = ["0 to 18446744073709551615", "0 to 4294967295", "0 to 4294967295"];
-    for (i, (with, range)) in [cdt, challenge, list].iter().zip(ranges).enumerate() {
+    let [cdt, challenge, list, recorded, z1, z2, ..] = reading("bad");
+    let (words, positions, values) = ("0 to 18446744073709551615", "0 to 4294967295", "-2147483648 to 2147483647");
+    let files = [(cdt, words), (challenge, positions), (list, positions), (recorded, positions), (z1, values), (z2, values)];
+    for (i, (with, range)) in files.iter().enumerate() {
         let refused = |name: &str, content: &[u8], line: usize, problem: &str| {
             let bad = file(&format!("bad-{i}-{name}"), content);
             fails(&with_file(with, &bad), 1, &format!("{bad}:{line}: {problem}"));
@@ -47,7 +51,9 @@ fn bad_values_in_public_files_are_shown_with_their_line() {
         refused("utf-8", b"\n\n\xff\n", 3, "this is not UTF-8 text");
         refused("long", &[b"\n", &[b'1'; 4097][..]].concat(), 2, "this line is longer than 4096 bytes");
         refused("large", b"18446744073709551616", 1, &format!("\"18446744073709551616\" is outside {range}"));
-        refused("minus", b"-1\n", 1, "\"-1\" has a minus sign, and no value here is negative");
+        if range.starts_with('0') {
+            refused("minus", b"-1\n", 1, "\"-1\" has a minus sign, and no value here is negative");
+        }
     }
 }
 
@@ -153,4 +159,9 @@ fn tables_without_end_are_read_to_the_first_number_too_many() {
     refused(&["check-key", "--degree", "4", "--length", "1", "-"], too_long);
     let respond = ["respond", "--degree", "4", "--key", &key, "--challenge", "-"];
     refused(&respond, "refusal 6: it holds more than 4 positions, the most at degree 4");
+    let record = ["record", "write", "--degree", "4"];
+    refused(&[&record[..], &["--challenge", "-"]].concat(), "refusal 6: it holds more than 4 positions, the most at degree 4");
+    for half in ["--z1", "--z2"] {
+        refused(&[&record[..], &[half, "-"]].concat(), "refusal 2: its length is more than 4, and 4 is wanted");
+    }
 }

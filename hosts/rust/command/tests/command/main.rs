@@ -14,6 +14,7 @@ mod output;
 #[allow(dead_code)]
 #[path = "../../../wrapper/tests/random/mod.rs"]
 mod random;
+mod record;
 mod refusals;
 mod respond;
 
@@ -50,15 +51,20 @@ fn run(arguments: &[&str]) -> Ran {
 }
 
 fn ended(child: Child) -> Ran {
+    let (status, out, err) = ended_with_bytes(child);
+    Ran { status, out: String::from_utf8(out).unwrap(), err }
+}
+
+/// The same where what is printed may be no text.
+fn ended_with_bytes(child: Child) -> (i32, Vec<u8>, String) {
     let output = child.wait_with_output().unwrap();
-    let [out, err] = [output.stdout, output.stderr].map(|text| String::from_utf8(text).unwrap());
-    Ran { status: output.status.code().unwrap(), out, err }
+    (output.status.code().unwrap(), output.stdout, String::from_utf8(output.stderr).unwrap())
 }
 
 /// Runs the program with this on its standard input.
-fn run_with(input: &str, arguments: &[&str]) -> Ran {
+fn run_with(input: impl AsRef<[u8]>, arguments: &[&str]) -> Ran {
     let mut child = program(arguments).stdin(Stdio::piped()).spawn().unwrap();
-    child.stdin.take().unwrap().write_all(input.as_bytes()).unwrap();
+    child.stdin.take().unwrap().write_all(input.as_ref()).unwrap();
     ended(child)
 }
 
@@ -75,21 +81,39 @@ fn run_endless(mut program: Command, input: &str) -> Ran {
 
 /// What a run prints that is served, and says nothing.
 fn printed(arguments: &[&str]) -> String {
-    let ran = run(arguments);
-    assert_eq!((ran.status, ran.err.as_str()), (0, ""), "{arguments:?}");
-    ran.out
+    String::from_utf8(printed_bytes(arguments)).unwrap()
 }
 
-/// The commands that the help names, before the command help.
+fn printed_bytes(arguments: &[&str]) -> Vec<u8> {
+    let (status, out, err) = ended_with_bytes(program(arguments).spawn().unwrap());
+    assert_eq!((status, err.as_str()), (0, ""), "{arguments:?}");
+    out
+}
+
+/// The commands that the help names, without the command help: each as it is called, and after it those below it.
 fn commands() -> Vec<String> {
     let mut commands = named(&printed(&["-h"]), "Commands:");
     assert_eq!(commands.pop().as_deref(), Some("help"));
-    commands
+    let with_those_below = commands.into_iter().flat_map(|command| {
+        let below = named(&short_help(&command), "Commands:");
+        let below: Vec<String> = below.into_iter().map(|below| format!("{command} {below}")).collect();
+        [vec![command], below].concat()
+    });
+    with_those_below.collect()
+}
+
+/// A command, and words that follow it.
+fn calling<'a>(command: &'a str, with: &[&'a str]) -> Vec<&'a str> {
+    command.split(' ').chain(with.iter().copied()).collect()
+}
+
+fn short_help(command: &str) -> String {
+    printed(&calling(command, &["-h"]))
 }
 
 /// The options of a command that its help names, without --help, which all have.
 fn options(command: &str) -> Vec<String> {
-    let options = named(&printed(&[command, "-h"]), "Options:");
+    let options = named(&short_help(command), "Options:");
     options.into_iter().filter(|option| option.starts_with("--")).collect()
 }
 

@@ -13,13 +13,14 @@ fn each_command_and_option_is_in_the_manual() {
     let page = printed(&["manual"]);
     let described = section(&page, "SH", "COMMANDS");
     for command in commands() {
-        let section = section(&format!("\n{described}"), "SS", &command).to_owned();
+        let heading = if command.contains(' ') { format!("{command:?}") } else { command.clone() };
+        let section = section(&format!("\n{described}"), "SS", &heading).to_owned();
         assert!(section.starts_with(&format!("\\fBbliss\\-box {}\\fR", command.replace('-', "\\-"))), "{section}");
         for option in options(&command) {
             let tag = format!("\n.TP\n\\fB{}\\fR ", option.replace('-', "\\-"));
             assert_eq!(section.matches(&tag).count(), 1, "{option}: {section}");
         }
-        for argument in named(&printed(&[&command, "-h"]), "Arguments:") {
+        for argument in named(&short_help(&command), "Arguments:") {
             let tag = format!("\n.TP\n\\fI{}\\fR\n", argument.trim_matches(['<', '>', '.']));
             assert_eq!(section.matches(&tag).count(), 1, "{argument}: {section}");
         }

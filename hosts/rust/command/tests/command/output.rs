@@ -79,6 +79,9 @@ fn standard_output_is_none_of_the_other_files() {
         (inputs.respond(&["--list", &list]), &list, "--list"),
         (vec!["list", &reads], &reads, "FILE"),
         (vec!["check-key", "--degree", "4", "--length", "1", &inputs.key], &inputs.key, "FILE"),
+        (vec!["record", "write", "--degree", "4", "--challenge", &inputs.challenge], &inputs.challenge, "--challenge"),
+        (vec!["record", "read", &reads], &reads, "FILE"),
+        (inputs.respond(&["--record", &list]), &list, "--record"),
     ] {
         let appending = OpenOptions::new().append(true).open(output).unwrap();
         let ran = ended(program(&arguments).stdout(appending).spawn().unwrap());
@@ -184,7 +187,7 @@ fn what_cannot_be_written_is_said() {
     unwritten(&running, "Text file busy (os error 26)");
     assert_eq!(names_in(&folder), ["loop", "running"]);
 
-    for arguments in [&["draw"][..], &["--help"], &["--version"], &["completions", "bash"], &["manual"]] {
+    for arguments in [&["draw"][..], &["--help"], &["--version"], &["completions", "bash"], &["manual"], &["record", "write"]] {
         let full = OpenOptions::new().write(true).open("/dev/full").unwrap();
         let ran = ended(program(arguments).stdout(full).spawn().unwrap());
         let problem = "bliss-box: standard output: No space left on device (os error 28)\n";
@@ -200,7 +203,8 @@ fn a_closed_standard_output_is_an_error() {
     let folder = folder("closed");
     let list = format!("{folder}/list");
     let draw = ["draw", "--degree", "4", "--list", &list];
-    for arguments in [&["--help"][..], &["--version"], &["draw", "--help"], &["exp", "0"], &["demo"], &["manual"], &draw] {
+    let others = [&["--help"][..], &["--version"], &["draw", "--help"], &["exp", "0"], &["demo"], &["manual"]];
+    for arguments in [&others[..], &[&["record", "write"], &draw]].concat() {
         let ran = ended(program_by("exec \"$0\" \"$@\" >&-", arguments).spawn().unwrap());
         assert_eq!((ran.status, ran.err.as_str()), (1, "bliss-box: standard output: it is closed\n"), "{arguments:?}");
     }

@@ -1,6 +1,6 @@
 //! `bliss-box respond`.
 
-use bliss_box::{draw_limit, CDT, RESPOND_WORDS};
+use bliss_box::{draw_limit, Record, CDT, RESPOND_WORDS};
 
 use super::*;
 
@@ -101,4 +101,68 @@ fn lists_of_many_tries_take_no_more_memory_than_one() {
     let rejected = (9 << 24).to_string();
     assert_eq!(fs::read_to_string(&list).unwrap().lines().filter(|line| *line == rejected).count(), 30);
     fs::remove_file(list).unwrap();
+}
+
+/// Words of a try that is accepted at degree 4, whose noise is all ones.
+fn accepted_words() -> Vec<u64> {
+    [words_with("11111111"), vec![0; RESPOND_WORDS]].concat()
+}
+
+#[test]
+fn a_response_is_stored_with_its_challenge() {
+    let ([key, challenge], folder) = (key_and_challenge("stored"), folder("stored"));
+    let words = file("stored-words", lines(&accepted_words()));
+    let with = ["respond", "--degree", "4", "--limit", "8", "--key", &key, "--challenge", &challenge, "--words", &words];
+    let (z, record, list) = (run(&with).out, format!("{folder}/record"), format!("{folder}/list"));
+    let expected = {
+        let z: Vec<i32> = z.lines().map(|line| line.parse().unwrap()).collect();
+        let (z1, z2) = z.split_at(4);
+        Record { degree: 4, challenge: Some(vec![0, 3]), z1: Some(z1.to_vec()), z2: Some(z2.to_vec()) }
+    };
+    fs::write(&record, "older").unwrap();
+    let ran = run(&[&with[..], &["--record", &record, "--list", &list]].concat());
+    assert_eq!((ran.status, &ran.out), (0, &z));
+    assert_eq!(Record::from_bytes(&fs::read(&record).unwrap()), Ok(expected.clone()));
+    assert_eq!(names_in(&folder), ["list", "record"]);
+    let listed = fs::read_to_string(&list).unwrap();
+    fs::remove_file(&record).unwrap();
+
+    let ran = run(&[&with[..], &["--record", &record, "--list", "-"]].concat());
+    assert_eq!((ran.status, &ran.out), (0, &listed), "in place of the response");
+    assert_eq!(fs::read(&record).unwrap(), expected.to_bytes().unwrap());
+    let child = program(&[&with[..], &["--record", "-", "--list", &list]].concat()).spawn().unwrap();
+    let (status, out, _) = ended_with_bytes(child);
+    assert_eq!((status, out), (0, expected.to_bytes().unwrap()), "in place of the response");
+    assert_eq!(fs::read_to_string(&list).unwrap(), listed);
+}
+
+#[test]
+fn a_record_is_left_where_no_response_is_delivered() {
+    let ([key, challenge], folder) = (key_and_challenge("unstored"), folder("unstored"));
+    let (record, list) = (file("unstored/record", "older"), format!("{folder}/list"));
+    let respond = |words: &str| {
+        let with = ["respond", "--degree", "4", "--limit", "8", "--key", &key, "--challenge", &challenge, "--words", words];
+        [&with[..], &["--tries", "1", "--record", &record, "--list", &list]].concat().into_iter().map(String::from).collect()
+    };
+    let run_on = |arguments: Vec<String>, output: Stdio| {
+        let arguments: Vec<&str> = arguments.iter().map(String::as_str).collect();
+        ended(program(&arguments).stdout(output).spawn().unwrap())
+    };
+    // Rejected: there is a list, and no record.
+    let rejected = file("unstored-rejected", lines(&[words_with("11111111"), vec![0, u64::MAX, 0]].concat()));
+    assert_eq!(run_on(respond(&rejected), Stdio::piped()).status, 3);
+    assert_eq!(
+        (names_in(&folder), fs::read_to_string(&record).unwrap()),
+        (["list", "record"].map(String::from).into(), "older".into())
+    );
+    fs::remove_file(&list).unwrap();
+    // Accepted, and not printed.
+    let accepted = file("unstored-accepted", lines(&accepted_words()));
+    let full = fs::OpenOptions::new().write(true).open("/dev/full").unwrap();
+    assert_eq!(run_on(respond(&accepted), full.into()).status, 1);
+    assert_eq!((names_in(&folder), fs::read_to_string(&record).unwrap()), (vec!["record".into()], "older".into()));
+    // The list and the record can't be one file, also where there is none yet.
+    let with = ["respond", "--degree", "4", "--key", &key, "--challenge", &challenge, "--record", &list, "--list", &list];
+    fails(&with, 1, &format!("--list {list}: this is the same file as --record {list}"));
+    assert_eq!(names_in(&folder), ["record"]);
 }

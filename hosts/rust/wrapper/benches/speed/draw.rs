@@ -18,10 +18,14 @@ pub struct Draw {
 }
 
 impl Draw {
-    /// A limit of 4n, of which a draw makes about three quarters.
     pub fn new(n: usize) -> Draw {
+        Draw::by_seed(n, n as u64)
+    }
+
+    /// A limit of 4n, of which a draw makes about three quarters.
+    pub fn by_seed(n: usize, seed: u64) -> Draw {
         let limit = 4 * n;
-        let mut random = Random::new(n as u64);
+        let mut random = Random::new(seed);
         Draw {
             n,
             limit,
@@ -47,8 +51,8 @@ impl Draw {
     fn timed(&mut self, side: Side) -> (f64, Counts) {
         let (nanoseconds, answer) = match side {
             Side::Box => timed(|| self.by_box().answer),
-            Side::Shifted => timed(|| self.by_baseline::<Shifted>()),
-            Side::HighWord => timed(|| self.by_baseline::<HighWord>()),
+            Side::Plain => timed(|| self.by_baseline::<Shifted>()),
+            Side::Fastest => timed(|| self.by_baseline::<HighWord>()),
         };
         (nanoseconds, answer.expect("a draw that is served"))
     }

@@ -31,8 +31,8 @@ impl Call for Exponentials {
         let numbers = &self.numbers;
         let (nanoseconds, _) = match side {
             Side::Box => timed(|| last(numbers, by_box)),
-            Side::Shifted => timed(|| last(numbers, exponential_or_refusal::<Shifted>)),
-            Side::HighWord => timed(|| last(numbers, exponential_or_refusal::<HighWord>)),
+            Side::Plain => timed(|| last(numbers, exponential_or_refusal::<Shifted>)),
+            Side::Fastest => timed(|| last(numbers, exponential_or_refusal::<HighWord>)),
         };
         nanoseconds
     }
@@ -40,8 +40,8 @@ impl Call for Exponentials {
     fn left(&mut self, side: Side) -> Vec<u64> {
         let e = match side {
             Side::Box => by_box,
-            Side::Shifted => exponential_or_refusal::<Shifted>,
-            Side::HighWord => exponential_or_refusal::<HighWord>,
+            Side::Plain => exponential_or_refusal::<Shifted>,
+            Side::Fastest => exponential_or_refusal::<HighWord>,
         };
         self.numbers.iter().map(|n| e(*n)).collect()
     }

@@ -24,7 +24,7 @@ impl KeyChecks {
         let KeyChecks { n, length, key } = self;
         match side {
             Side::Box => timed(|| check_key(*n, key, *length)),
-            Side::Shifted | Side::HighWord => timed(|| baseline::check_key(*n, key, *length)),
+            Side::Plain | Side::Fastest => timed(|| baseline::check_key(*n, key, *length)),
         }
     }
 
@@ -37,8 +37,8 @@ impl KeyChecks {
 impl Call for KeyChecks {
     type Left = u32;
 
-    /// It has no product to shift: one baseline is enough.
-    const SIDES: &'static [Side] = &[Side::Box, Side::Shifted];
+    /// It has no product of 128 bits: one baseline is enough.
+    const SIDES: &'static [Side] = &[Side::Box, Side::Plain];
 
     fn name(&self) -> String {
         format!("key check, n = {}, {} positions", self.n, self.length)

@@ -8,7 +8,12 @@ use crate::random::Random;
 use crate::rounds::{timed, Call, Side};
 
 /// BLISS-I's number of positions.
-const POSITIONS: usize = 23;
+pub const POSITIONS: usize = 23;
+
+/// Positions that are spread evenly.
+pub fn challenge(n: usize) -> Vec<u32> {
+    (0..POSITIONS).map(|k| (k * n / POSITIONS) as u32).collect()
+}
 
 /// What a response is lent, with the draw that makes its y.
 pub struct Respond {
@@ -22,12 +27,12 @@ pub struct Respond {
 }
 
 impl Respond {
-    /// A key of small values, positions that are spread evenly, and words of 0, which pass both tests of a word.
+    /// A key of small values, and words of 0, which pass both tests of a word.
     pub fn new(n: usize) -> Respond {
         let mut random = Random::new(n as u64);
         Respond {
             draw: Draw::new(n),
-            challenge: (0..POSITIONS).map(|k| (k * n / POSITIONS) as u32).collect(),
+            challenge: challenge(n),
             polynomial: POLYNOMIAL,
             words: vec![0; RESPOND_WORDS],
             key: (0..sample_count(n)).map(|_| random.pick(&[-1, 0, 1])).collect(),
@@ -51,8 +56,8 @@ impl Respond {
         let session = self.draw.by_box().session;
         let (nanoseconds, answer) = match side {
             Side::Box => timed(|| self.by_box(session)),
-            Side::Shifted => timed(|| self.by_baseline::<Shifted>(session)),
-            Side::HighWord => timed(|| self.by_baseline::<HighWord>(session)),
+            Side::Plain => timed(|| self.by_baseline::<Shifted>(session)),
+            Side::Fastest => timed(|| self.by_baseline::<HighWord>(session)),
         };
         (nanoseconds, answer.expect("a response that is served"))
     }

@@ -11,16 +11,16 @@ pub const ROUNDS: usize = 1_001;
 pub enum Side {
     /// The archive.
     Box,
-    /// The baseline, whose products of 128 bits are shifted.
-    Shifted,
-    /// The baseline with high words of products.
-    HighWord,
+    /// The baseline.
+    Plain,
+    /// The baseline in its fastest form.
+    Fastest,
 }
 
-/// A call that the box and one baseline or both can make.
+/// A call that the box and one baseline or both can make, or several calls of one kind.
 pub trait Call {
     /// Those that make it, the box first.
-    const SIDES: &'static [Side] = &[Side::Box, Side::Shifted, Side::HighWord];
+    const SIDES: &'static [Side] = &[Side::Box, Side::Plain, Side::Fastest];
 
     /// All that the call answers and writes.
     type Left: PartialEq;

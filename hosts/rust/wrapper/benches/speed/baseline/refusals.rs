@@ -1,8 +1,10 @@
-//! The refusals of a draw, of a response and of a key check, in the documents' order. The types of the tables hold their lengths.
+//! The refusals of a draw, of a response, of a key check and of a record that is written, in the documents' order. The types of the
+//! tables hold their lengths.
 
 use bliss_box::{challenge_limit, draw_list_length, draw_word_count, respond_list_length, sample_count};
-use bliss_box::{Refusal, Session, KEY_SUM_LIMIT, POLYNOMIAL, RESPOND_WORDS};
+use bliss_box::{Refusal, Session, KEY_SUM_LIMIT, POLYNOMIAL, RESPOND_WORDS, VALUE_LIMIT};
 
+use super::record::Fields;
 use super::words::threshold;
 
 pub fn check_draw(
@@ -57,11 +59,19 @@ pub fn check_key_sum(sum: u32) -> Result<(), Refusal> {
     demand(sum <= KEY_SUM_LIMIT, Refusal::KeySum)
 }
 
+pub fn check_record(fields: &Fields) -> Result<(), Refusal> {
+    let n = fields.n;
+    demand(is_degree(n), Refusal::Degree)?;
+    demand(fields.halves().all(|z| z.len() == n), Refusal::Lengths)?;
+    demand(fields.challenge.map_or(true, |challenge| is_challenge(n, challenge)), Refusal::Challenge)?;
+    demand(fields.halves().all(|z| all_within(z, VALUE_LIMIT)), Refusal::Record)
+}
+
 fn demand(condition: bool, refusal: Refusal) -> Result<(), Refusal> {
     condition.then_some(()).ok_or(refusal)
 }
 
-fn is_degree(n: usize) -> bool {
+pub fn is_degree(n: usize) -> bool {
     n.is_power_of_two() && (4..=1024).contains(&n)
 }
 
@@ -70,7 +80,7 @@ fn is_cdt(cdt: &[u64; 20]) -> bool {
     cdt.iter().all(|word| *word < 1 << 62) && thresholds().zip(thresholds().skip(1)).all(|(before, after)| before <= after)
 }
 
-fn is_challenge(n: usize, challenge: &[u32]) -> bool {
+pub fn is_challenge(n: usize, challenge: &[u32]) -> bool {
     is_length(n, challenge.len())
         && challenge.iter().all(|position| (*position as usize) < n)
         && challenge.windows(2).all(|pair| pair[0] < pair[1])
