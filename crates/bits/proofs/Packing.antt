@@ -10,7 +10,7 @@ use borrow.Author.Tests.{ltb-true, ltb-false}
 use lib.ListN.{length, getD, List·getD-eq-default}
 use lib.Seq.{ext-getD}
 use Rattle.bits.specs.Bits.{odd, number, bitAt, streamOf, bytesFor, bytesFrom, packed}
-use Rattle.bits.proofs.Numbers.{number-below, number-halves, number-split, number-bit, number-same, number-zero, zero-number}
+use Rattle.bits.proofs.Numbers.{number-below, number-split, number-bit, number-same, number-zero, zero-number}
 use Rattle.bits.proofs.Streams.{Holds, holds-at, holds-of, holds-digits, number-holds}
 
 -- ** Bytes of a stream
@@ -77,12 +77,6 @@ byte-number bytes k small = number-holds (bitAt bytes) (8 * k) 8 (getD bytes k 0
         let m : 7 - (8 * k + i) % 8 ≡ r = omega (arith, e) in
         ap₂ (λ (b s : ℕ). odd (getD bytes b 0 / 2 ^ s)) q m
 
--- two bytes, as code works them out
-pub two-numbers : (bytes : List ℕ) (k : ℕ) → getD bytes k 0 < 256 → getD bytes (k + 1) 0 < 256
-    → 256 * getD bytes k 0 + getD bytes (k + 1) 0 ≡ number (bitAt bytes) (8 * k) 16
-two-numbers bytes k h g =
-    number-halves (bitAt bytes) (8 * k) 8 (sym (byte-number bytes k h)) (sym (byte-number bytes (k + 1) g)) (omega arith)
-
 -- a byte more
 pub byte-more : (bytes : List ℕ) (k i : ℕ) → getD bytes (k + i) 0 < 256
     → number (bitAt bytes) (8 * k) (8 * (i + 1)) ≡ 256 * number (bitAt bytes) (8 * k) (8 * i) + getD bytes (k + i) 0
@@ -92,6 +86,17 @@ byte-more bytes k i small =
     let at : 8 * k + 8 * i ≡ 8 * (k + i) = omega arith in
     let byte = ap (λ (x : ℕ). number s x 8) at ∙ byte-number bytes (k + i) small in
     ap (number s (8 * k)) wide ∙ number-split s (8 * k) (8 * i) 8 ∙ omega (arith, byte)
+
+-- four bytes, as code works them out
+pub four-numbers : (bytes : List ℕ) (k : ℕ) → ((i : ℕ) → getD bytes i 0 < 256)
+    → 256 * (256 * (256 * getD bytes k 0 + getD bytes (k + 1) 0) + getD bytes (k + 2) 0) + getD bytes (k + 3) 0
+    ≡ number (bitAt bytes) (8 * k) 32
+four-numbers bytes k small =
+    let one = byte-number bytes k (small k) in
+    let two = byte-more bytes k 1 (small (k + 1)) in
+    let three = byte-more bytes k 2 (small (k + 2)) in
+    let four = byte-more bytes k 3 (small (k + 3)) in
+    omega (arith, one, two, three, four)
 
 -- and bytes that have the bits of a list, and no others, are the list packed
 pub packed-of : (bytes : List ℕ) (bits : List Bool) → ((k : ℕ) → getD bytes k 0 < 256) → length bytes ≡ bytesFor (length bits) → ((i : ℕ) → bitAt bytes i ≡ streamOf bits i) → packed bits ≡ bytes

@@ -27,22 +27,16 @@ fn byte_at(bytes: &[u8], k: usize) -> u8
     bytes[k]
 }
 
-// The number of two bytes from byte k on, all of which are there; and of four and eight. By halves, and not byte by byte: so the compiler
-// makes one load of eight.
-fn two_bytes(bytes: &[u8], k: usize) -> u64
-    requires { ⌜ k + 2 ≤ length (now bytes) ⌝ }
-    ensures { λ r. ⌜ r ≡ number (bitAt (now (bytes .entry))) (8 * k) 16 ⌝ }
-{
-    256 * (bytes[k] as u64) + bytes[k + 1] as u64
-}
-
+// The number of four bytes from byte k on, all of which are there.
 fn four_bytes(bytes: &[u8], k: usize) -> u64
     requires { ⌜ k + 4 ≤ length (now bytes) ⌝ }
     ensures { λ r. ⌜ r ≡ number (bitAt (now (bytes .entry))) (8 * k) 32 ⌝ }
 {
-    65536 * two_bytes(bytes, k) + two_bytes(bytes, k + 2)
+    256 * (256 * (256 * (bytes[k] as u64) + bytes[k + 1] as u64) + bytes[k + 2] as u64)
+        + bytes[k + 3] as u64
 }
 
+// The number of eight. In this form, by halves, the compiler makes one load of it.
 fn eight_bytes(bytes: &[u8], k: usize) -> u64
     requires { ⌜ k + 8 ≤ length (now bytes) ⌝ }
     ensures { λ r. ⌜ r ≡ number (bitAt (now (bytes .entry))) (8 * k) 64 ⌝ }
