@@ -1,4 +1,3 @@
 pub mod LongestForm
 pub mod Fields
 pub mod ReadLaws
-pub mod FirstRefusal

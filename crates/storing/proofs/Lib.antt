@@ -1,1 +1,3 @@
-pub mod Storing
+pub mod Writing
+pub mod Reading
+pub mod Together

@@ -1,1 +1,2 @@
-// What a response, a write and a read of a record promise together. This crate has no code: the claims are in specs/, their proofs in proofs/.
+// What writes and reads of records promise, each alone, both together, and for responses. This crate has no code: the claims are in
+// specs/, their proofs in proofs/.

@@ -28,12 +28,11 @@ use Rattle.record.specs.Record.{FieldSet, valueLimit, isHalf, isFieldSet, recor
 use Rattle.record.proofs.FieldSets.{is-field-set}
 use Rattle.record.proofs.OneForOne.{longest-record}
 use Rattle.record_writer.specs.Call.{told, writeLeft}
-use Rattle.record_writer.proofs.WriteAnswers.{write-served, storable-served}
-use Rattle.record_writer.proofs.FirstRefusal.{refusal-is, writes-the-record}
+use Rattle.storing.proofs.Writing.{write-served, storable-served, refusal-is, writes-the-record}
 use Rattle.record_reader.specs.Call.{contentsOf, haveRoom, ReadLeft, readServed, readLeft}
 use Rattle.record_reader.proofs.ReadLaws.{fits}
-use Rattle.record_reader.proofs.FirstRefusal.{fails-short, read-of-record, with-room, read-served, reads-the-fields}
-use Rattle.storing.specs.Storing.{toldAgain, allFields, WrittenIsRead, ReadIsWritten, ResponsesAreStored}
+use Rattle.storing.proofs.Reading.{fails-short, read-of-record, with-room, read-served, reads-the-fields}
+use Rattle.storing.specs.Together.{toldAgain, allFields, WrittenIsRead, ReadIsWritten, ResponsesAreStored}
 
 -- ** What is written is read
 

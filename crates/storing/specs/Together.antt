@@ -1,4 +1,4 @@
--- Request S-3: a signature that is stored, read and stored again, as the caller sees it. Assumes nothing.
+-- A signature that is stored, read and stored again, and responses: as the caller sees it, by request S-3. Assumes nothing.
 use mathlib.Core.Path.{_≡_}
 use mathlib.Core.Bool.{true}
 use mathlib.Core.List.{List, _++_}
@@ -14,7 +14,7 @@ use Rattle.record.specs.OneForOne.{AreBytes, longest}
 use Rattle.record_writer.specs.declared.Fields.{Fields}
 use Rattle.record_writer.specs.Call.{told, writeLeft}
 use Rattle.record_reader.specs.Call.{ReadLeft, readLeft}
-use Rattle.record_reader.specs.FirstRefusal.{Short, Gives}
+use Rattle.storing.specs.Reading.{Short, Gives}
 
 -- ** What is written is read
 

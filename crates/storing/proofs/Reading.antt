@@ -19,9 +19,9 @@ use Rattle.record.specs.Reading.{fieldSetOf}
 use Rattle.record.specs.OneForOne.{AreBytes}
 use Rattle.record.proofs.FieldSets.{length-fields}
 use Rattle.record.proofs.OneForOne.{round-trip, just-one-record, just-one-field-set, records-alone}
 use Rattle.record_reader.specs.Call.{mapOf, contentsOf, noContents, haveRoom, ReadLeft, afterRead, readServed, handedOver, readLeft}
 use Rattle.record_reader.proofs.ReadLaws.{fits}
-use Rattle.record_reader.specs.FirstRefusal.{NoRecord, Short, NoRoom, ReadRefuses, ReadRefusesFirst, Handed, ReadsTheFields, RefusedReadLeaves}
+use Rattle.storing.specs.Reading.{NoRecord, Short, NoRoom, ReadRefuses, ReadRefusesFirst, Handed, ReadsTheFields, RefusedReadLeaves}
 
 -- ** The refusal
 

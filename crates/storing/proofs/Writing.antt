@@ -3,21 +3,54 @@ use mathlib.Core.Path.{_≡_, refl, sym, ap, _∙_}
 use mathlib.Core.Bool.{Bool, true, false, cond, false≢true}
 use mathlib.Core.List.{List}
 use mathlib.Core.Logic.{_≢_}
-use Prim.Native.Nat.{ℕ}
-use borrow.Author.Tests.{eq-eqb, ne-eqb, eqb-true}
+use mathlib.Core.Option.{Option, none, some}
+use Prim.Native.Nat.{ℕ, _≤_}
+use borrow.Author.Tests.{eq-eqb, ne-eqb, eqb-true, leb-true, le-leb}
 use lib.Dec.{eqb}
 use lib.IntN.{ℤ}
 use lib.ListN.{length}
 use Rattle.bits.specs.Items.{given, passes}
+use Rattle.checks.specs.Checks.{isDegree, firstRefusal}
+use Rattle.checks.proofs.JoinedTests.{both-true}
+use Rattle.checks.proofs.Lines.{numbered, testOf, passes as passes-line}
 use Rattle.checks.proofs.RefusalTable.{FailsWhere, refuses, serves, fails-no-degree, fails-unequal, fails-either, fails-above}
 use Rattle.refusals.specs.FirstRefusal.{Outside}
 use Rattle.refusals.proofs.FirstRefusal.{fails-no-challenge, fails-outside}
 use Rattle.lists.proofs.AtTheStart.{written}
 use Rattle.challenge.specs.Challenge.{isChallenge}
-use Rattle.record.specs.Record.{FieldSet, areN, areSmall, recordOf}
-use Rattle.record_writer.specs.Call.{told, writeRefusal, writeServed, writeRefused, writeLeft}
-use Rattle.record_writer.proofs.WriteAnswers.{write-served}
-use Rattle.record_writer.specs.FirstRefusal.{OfTold, WriteRefusesFirst, WritesTheRecord, UntoldUntested}
+use Rattle.record.specs.Record.{FieldSet, areN, areSmall, isHalf, isFieldSet, recordOf}
+use Rattle.record_writer.specs.Call.{told, writeTests, writeRefusal, writeServed, writeRefused, writeLeft}
+use Rattle.record_writer.proofs.WriteAnswers.{passed}
+use Rattle.storing.specs.Writing.{OfTold, WriteRefusesFirst, WritesTheRecord, UntoldUntested}
+
+-- ** Writes that are served
+
+-- what is known of a write that is not refused
+pub record WriteServed (f : FieldSet) (room : ℕ) : Type 0 where
+  pub storable : isFieldSet f ≡ true
+  pub fits : length (recordOf f) ≤ room
+
+pub write-served : (f : FieldSet) (room : ℕ) → writeRefusal f room ≡ 0 → WriteServed f room
+unfolding writeRefusal testOf numbered
+write-served f room h =
+    let p : (k : ℕ) → testOf k (writeTests f room) ≡ true = λ k. passes-line k _ refl h in
+    record { storable = passed f (p 1) (p 2) (p 6) (p 15); fits = leb-true (length (recordOf f)) room (p 14) }
+
+-- fields that can be stored are not refused where their record has room
+half-parts : (n : ℕ) (z : Option (List ℤ)) → passes (isHalf n) z ≡ true → (passes (areN n) z ≡ true) × (passes areSmall z ≡ true)
+unfolding passes
+half-parts n none h = (refl, refl)
+half-parts n (some z) h = both-true (areN n z) (areSmall z) h
+
+pub storable-served : (f : FieldSet) (room : ℕ) → isFieldSet f ≡ true → length (recordOf f) ≤ room → writeRefusal f room ≡ 0
+unfolding isFieldSet writeRefusal firstRefusal
+storable-served f room h fits =
+    let t = both-true (isDegree (f .n)) _ h in
+    let u = both-true (passes (isChallenge (f .n)) (f .challenge)) _ (t .1) in
+    let v = both-true (passes (isHalf (f .n)) (f .z1)) (passes (isHalf (f .n)) (f .z2)) (u .1) in
+    let a = half-parts (f .n) (f .z1) (v .0) in
+    let b = half-parts (f .n) (f .z2) (v .1) in
+    rw (t .0, a .0, b .0, u .0, a .1, b .1, le-leb (length (recordOf f)) room fits)
 
 -- ** The refusal
 
