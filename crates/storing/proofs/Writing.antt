@@ -21,7 +21,7 @@ use Rattle.challenge.specs.Challenge.{isChallenge}
 use Rattle.record.specs.Record.{FieldSet, areN, areSmall, isHalf, isFieldSet, recordOf}
 use Rattle.record_writer.specs.Call.{told, writeTests, writeRefusal, writeServed, writeRefused, writeLeft}
 use Rattle.record_writer.proofs.WriteAnswers.{passed}
-use Rattle.storing.specs.Writing.{OfTold, WriteRefusesFirst, WritesTheRecord, UntoldUntested}
+use Rattle.storing.specs.Writing.{OfTold, WriteRefusesFirst, WritesFieldSets, WritesTheRecord, UntoldUntested}
 
 -- ** Writes that are served
 
@@ -86,6 +86,12 @@ write-refuses-first n fields challenge z1 z2 out =
     refuses 6 _ (fails-of-told (isChallenge n) (fields .challenge) challenge (fails-no-challenge n challenge)) (λ p6.
     refuses 15 _ (fails-either (sizes (fields .z1) z1) (sizes (fields .z2) z2)) (λ p15.
     refuses 14 _ (fails-above (length (recordOf f)) (length out)) (λ p14. serves))))))
+
+pub writes-field-sets : WritesFieldSets
+writes-field-sets f out room = (
+  λ h. refusal-is f out ∙ storable-served f (length out) h room,
+  λ e. write-served f (length out) (sym (refusal-is f out) ∙ e) .storable,
+)
 
 -- ** What is left
 

@@ -2,13 +2,13 @@
 use mathlib.Core.Path.{_≡_}
 use mathlib.Core.Bool.{Bool, true}
 use mathlib.Core.List.{List, _++_}
-use mathlib.Core.Logic.{_⊎_, _≢_}
-use Prim.Native.Nat.{ℕ, _<_}
+use mathlib.Core.Logic.{_⊎_, _≢_, _↔_}
+use Prim.Native.Nat.{ℕ, _≤_, _<_}
 use lib.IntN.{ℤ}
 use lib.ListN.{length, drop}
 use Rattle.checks.specs.RefusalTable.{Refuses, Serves}
 use Rattle.refusals.specs.FirstRefusal.{NoDegree, TooMany, NoPositions, Outside}
-use Rattle.record.specs.Record.{FieldSet, recordOf}
+use Rattle.record.specs.Record.{FieldSet, isFieldSet, recordOf}
 use Rattle.record_writer.specs.declared.Fields.{Fields}
 use Rattle.record_writer.specs.Call.{told, writeLeft}
 
@@ -33,6 +33,13 @@ abbrev pub WriteRefusesFirst : Type 0
 WriteRefusesFirst =
     (n : ℕ) (fields : Fields) (challenge : List ℕ) (z1 z2 : List ℤ) (out : List ℕ)
     → WriteRefuses n fields challenge z1 z2 (length out) (writeLeft (told n fields challenge z1 z2) out .written .refusal)
+
+-- the field sets of which records are claimed to be one for one (`isFieldSet`) are those that can be written: where the record has room,
+-- just they are not refused
+abbrev pub WritesFieldSets : Type 0
+WritesFieldSets =
+    (f : FieldSet) (out : List ℕ) → length (recordOf f) ≤ length out
+    → (isFieldSet f ≡ true) ↔ (writeLeft f out .written .refusal ≡ 0)
 
 -- ** What is left
 
