@@ -32,6 +32,7 @@ use Rattle.storing.proofs.Writing.{write-served, storable-served, refus
 use Rattle.record_reader.specs.Call.{contentsOf, haveRoom, ReadLeft, readServed, readLeft}
 use Rattle.record_reader.proofs.ReadLaws.{fits}
 use Rattle.storing.proofs.Reading.{fails-short, read-of-record, with-room, read-served, reads-the-fields}
+use Rattle.storing.specs.Reading.{Short, Gives}
 use Rattle.storing.specs.Together.{toldAgain, allFields, WrittenIsRead, ReadIsWritten, ResponsesAreStored}
 
 -- ** What is written is read
@@ -40,18 +41,25 @@ holds-unless : {test : Bool} {applies : Type 0} → FailsWhere test applies → 
 holds-unless {test = true} f never = refl
 holds-unless {test = false} f never = absurd (never (f .fails refl))
 
-pub written-is-read : WrittenIsRead
+-- bytes that are the record of a field set, read with room for its fields
+read-so : (f : FieldSet) (bytes challenge : List ℕ) (z1 z2 : List ℤ) → isFieldSet f ≡ true → bytes ≡ recordOf f
+    → (Short f (length challenge) (length z1) (length z2) → ⊥) → let read = readLeft bytes challenge z1 z2 in
+    (read .contents .refusal ≡ 0) × Gives f challenge z1 z2 read
 unfolding contentsOf
+read-so f bytes challenge z1 z2 h is room =
+    let r = holds-unless (fails-short f (length challenge) (length z1) (length z2)) room in
+    let same = read-of-record f challenge z1 z2 h ∙ with-room f challenge z1 z2 r in
+    let served = ap (λ (left : ReadLeft). left .contents .refusal) same in
+    rw is (served, reads-the-fields f challenge z1 z2 h served)
+
+pub written-is-read : WrittenIsRead
 written-is-read n fields challenge z1 z2 out to-challenge to-z1 to-z2 h room =
     let f = told n fields challenge z1 z2 in
     let w = write-served f (length out) (sym (refusal-is f out) ∙ h) in
     let left = writes-the-record f out .served h in
     let bytes : take (writeLeft f out .written .length) (writeLeft f out .out) ≡ recordOf f =
     rw (left .0, left .1) (take-append-seam (recordOf f) (drop (length (recordOf f)) out)) in
-    let r = holds-unless (fails-short f (length to-challenge) (length to-z1) (length to-z2)) room in
-    let served = ap (λ (l : ReadLeft). l .contents .refusal)
-    (read-of-record f to-challenge to-z1 to-z2 (w .storable) ∙ with-room f to-challenge to-z1 to-z2 r) in
-    rw bytes (served, reads-the-fields f to-challenge to-z1 to-z2 (w .storable) served)
+    read-so f _ to-challenge to-z1 to-z2 (w .storable) bytes room
 
 -- ** What is read is written again
 

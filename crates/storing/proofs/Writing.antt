@@ -111,5 +111,10 @@ unfolding given
 given-same {tells = true} h = ap (given true) (h refl)
 given-same {tells = false} h = refl
 
+same-set : (n : ℕ) {c c′ : Option (List ℕ)} {a a′ b b′ : Option (List ℤ)} → c ≡ c′ → a ≡ a′ → b ≡ b′
+    → _≡_ {A = FieldSet} (record { n = n; challenge = c; z1 = a; z2 = b }) (record { n = n; challenge = c′; z1 = a′; z2 = b′ })
+same-set n ec ea eb = rw (ec, ea, eb)
+
 pub untold-untested : UntoldUntested
-untold-untested n fields challenge challenge′ z1 z1′ z2 z2′ out c a b = rw (given-same c, given-same a, given-same b)
+untold-untested n fields challenge challenge′ z1 z1′ z2 z2′ out c a b =
+    ap (λ (f : FieldSet). writeLeft f out) (same-set n (given-same c) (given-same a) (given-same b))
