@@ -5,7 +5,7 @@ use Prim.Native.Nat.{_+_, _-_, _*_, _≤_, _<_}
 use lib.IntN.{ℤ, pos, natAbs}
 use lib.ListN.{length, getD}
 use Rattle.bits.proofs.Putting.{Putting, putting-start, putting-step, putting-end, forms-length}
-use Rattle.record.specs.Record.{valueBits}
+use Rattle.record.specs.Record.{valueLimit, valueBits}
 use Rattle.record.proofs.FieldSets.{length-value}
 use Rattle.record_writer.proofs.WriteLaws.{value-small, value-read}
 use Rattle.record_writer.proofs.put_values.Statement.{statement}
@@ -34,7 +34,7 @@ module _ (c : tie.At-loop Inv-loop μ-loop) where
   abbrev value : ℤ
   value = getD (start c .args .values .now) (c .loop .i) (pos 0)
 
-  small : natAbs value ≤ 3263
+  small : natAbs value ≤ valueLimit
   small = value-small (start c .args .values .now) (start c .pre .0 .0) (c .loop .i)
 
 -- ** The needs

@@ -7,7 +7,7 @@ use lib.IntN.{ℤ, pos, natAbs}
 use lib.ListN.{length, getD}
 use Rattle.bits.specs.Items.{joined}
 use Rattle.bits.proofs.Putting.{formsFrom, forms-length, no-forms-left}
-use Rattle.record.specs.Record.{valueBits}
+use Rattle.record.specs.Record.{valueLimit, valueBits}
 use Rattle.record.proofs.FieldSets.{length-value}
 use Rattle.record_writer.proofs.WriteLaws.{value-small, value-read}
 use Rattle.record_writer.proofs.values_length.Statement.{statement}
@@ -36,7 +36,7 @@ module _ (c : tie.At-loop Inv-loop μ-loop) where
   abbrev value : ℤ
   value = getD (start c .args .values .now) (c .loop .i) (pos 0)
 
-  small : natAbs value ≤ 3263
+  small : natAbs value ≤ valueLimit
   small = value-small (start c .args .values .now) (start c .pre .0) (c .loop .i)
 
 size : (c : tie.After-size-of Inv-loop μ-loop) → c .size-of .result ≡ natAbs (value (turn c))
