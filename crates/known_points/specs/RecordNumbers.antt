@@ -1,20 +1,20 @@
--- Request S-3, the record of a signature, in bits and bytes worked out by hand: forms of values, records, bytes that are none, and the order
--- of refusals. negsuc k is -(k + 1). Assumes nothing.
+-- Request S-3, the record of a signature, in bits and bytes worked out by hand: forms of values, records, bytes that are none, and the
+-- order of refusals. negsuc k is -(k + 1). Assumes nothing.
 use mathlib.Core.Path.{_≡_}
 use mathlib.Core.Bool.{Bool, true, false}
 use mathlib.Core.List.{List, [], _∷_, _++_}
 use mathlib.Core.Option.{Option, none, some}
-use Prim.Native.Nat.{ℕ, _+_, _^_}
+use Prim.Native.Nat.{ℕ, _+_}
 use lib.IntN.{ℤ, pos, negsuc}
-use lib.ListN.{length, replicate}
+use lib.ListN.{replicate}
 use Rattle.response.specs.Response.{responseBound}
 use Rattle.record.specs.Record.{FieldSet, valueLimit, valueBits, recordOf}
 use Rattle.record.specs.Reading.{fieldSetOf}
 use Rattle.record.specs.OneForOne.{longest}
 use Rattle.record_writer.specs.declared.Fields.{Fields}
-use Rattle.record_writer.specs.Call.{told, answer, WriteLeft, afterWrite, writeLeft}
+use Rattle.record_writer.specs.Call.{told, answer, afterWrite, writeLeft}
 use Rattle.record_reader.specs.declared.Contents.{Contents}
-use Rattle.record_reader.specs.Call.{noContents, ReadLeft, afterRead, readLeft}
+use Rattle.record_reader.specs.Call.{afterRead, readLeft}
 
 abbrev pub fieldSet : (n : ℕ) (challenge : Option (List ℕ)) (z1 z2 : Option (List ℤ)) → FieldSet
 fieldSet n challenge z1 z2 = record { n = n; challenge = challenge; z1 = z1; z2 = z2 }
@@ -40,6 +40,10 @@ refusalOf n challenge z1 z2 room = writeLeft (told n (tell true true true) chall
 -- and of one that tells z1 alone, of degree 4
 abbrev pub refusalOfZ1 : (last : ℤ) → ℕ
 refusalOfZ1 last = writeLeft (told 4 (tell false true false) [] (ending last) []) (replicate 20 9) .written .refusal
+
+-- a refused read answers 0 but for the refusal
+abbrev pub refusedBy : (refusal : ℕ) → Contents
+refusedBy refusal = record { refusal = refusal; map = 0; degree = 0; positions = 0; z1 = 0; z2 = 0 }
 
 -- a signature of degree 4: challenge, z1 and z2
 abbrev pub signature : FieldSet
@@ -117,7 +121,8 @@ pub record RecordNumbers : Type 0 where
   pub written : writeLeft (told 4 (tell false true false) [] zeros []) (replicate 10 9)
       ≡ afterWrite (answer 0 8) (zerosStored ++ (9 ∷ 9 ∷ []))
   -- a field that is not told may hold anything, and be of any length
-  pub untold : writeLeft (told 4 (tell false true false) (7 ∷ 7 ∷ []) zeros (pos 5000 ∷ [])) (replicate 8 9) ≡ afterWrite (answer 0 8) zerosStored
+  pub untold : writeLeft (told 4 (tell false true false) (7 ∷ 7 ∷ []) zeros (pos 5000 ∷ [])) (replicate 8 9)
+      ≡ afterWrite (answer 0 8) zerosStored
   -- one byte too few, and nothing is written
   pub too-short : writeLeft (told 4 (tell false true false) [] zeros []) (replicate 7 9) ≡ afterWrite (answer 14 0) (replicate 7 9)
   -- the limit of values: 3,263 is written, 3,264 is not, nor is the smallest value of 32 bits
@@ -144,8 +149,8 @@ pub record RecordNumbers : Type 0 where
       readLeft (zerosStored ++ (0 ∷ [])) (9 ∷ []) (replicate 3 (pos 9)) []
       ∷ readLeft signatureStored (9 ∷ 9 ∷ []) (replicate 4 (pos 9)) (replicate 3 (pos 9))
       ∷ []
-      ≡ afterRead (noContents 15) (9 ∷ []) (replicate 3 (pos 9)) []
-      ∷ afterRead (noContents 14) (9 ∷ 9 ∷ []) (replicate 4 (pos 9)) (replicate 3 (pos 9))
+      ≡ afterRead (refusedBy 15) (9 ∷ []) (replicate 3 (pos 9)) []
+      ∷ afterRead (refusedBy 14) (9 ∷ 9 ∷ []) (replicate 4 (pos 9)) (replicate 3 (pos 9))
       ∷ []
   --
   -- ** Responses

@@ -152,4 +152,5 @@ refused-set (some f) challenge z1 z2 h =
     refused-room f challenge z1 z2 (haveRoom (contentsOf f) (length challenge) (length z1) (length z2)) h
 
 pub refused-read-leaves : RefusedReadLeaves
+unfolding noContents
 refused-read-leaves bytes challenge z1 z2 h = refused-set (fieldSetOf bytes) challenge z1 z2 h

@@ -11,7 +11,8 @@ use Rattle.bits.specs.Items.{itemsOf}
 use Rattle.checks.specs.RefusalTable.{Refuses, Serves}
 use Rattle.record.specs.Record.{FieldSet, isFieldSet, recordOf}
 use Rattle.record.specs.OneForOne.{AreBytes}
-use Rattle.record_reader.specs.Call.{ReadLeft, noContents, afterRead, readLeft}
+use Rattle.record_reader.specs.declared.Contents.{Contents}
+use Rattle.record_reader.specs.Call.{ReadLeft, afterRead, readLeft}
 
 -- ** Refusals
 
@@ -70,4 +71,6 @@ ReadsTheFields =
 abbrev pub RefusedReadLeaves : Type 0
 RefusedReadLeaves =
     (bytes challenge : List ℕ) (z1 z2 : List ℤ) → let left = readLeft bytes challenge z1 z2 in
-    (left .contents .refusal ≡ 0 → ⊥) → left ≡ afterRead (noContents (left .contents .refusal)) challenge z1 z2
+    (left .contents .refusal ≡ 0 → ⊥) →
+    let refused : Contents = record { refusal = left .contents .refusal; map = 0; degree = 0; positions = 0; z1 = 0; z2 = 0 } in
+    left ≡ afterRead refused challenge z1 z2
