@@ -91,7 +91,6 @@ impl Record {
         };
         served(written.refusal)?;
         bytes.truncate(written.length);
-        bytes.shrink_to_fit();
         Ok(bytes)
     }
 
