@@ -1,4 +1,4 @@
-// Bits in bytes: each byte's highest bit first, and zeros behind the bytes. Numbers are read and put byte by byte, and not bit by bit.
+// Bits in bytes: each byte's highest bit first, and zeros behind the bytes. Numbers are read and put by whole bytes, and not bit by bit.
 ghost use mathlib.Core.Path.{_≡_};
 ghost use mathlib.Core.Bool.{true, false};
 ghost use mathlib.Core.List.{[], _∷_, _++_};

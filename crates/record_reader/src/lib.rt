@@ -46,14 +46,14 @@ fn value_at(bytes: &[u8], at: usize) -> Value
     }
 }
 
-// What stands in bytes as values of z: whether each may stand in a record, and then the place behind them.
-struct Values {
+// What was found in bytes: whether it may stand in a record, and then the place behind it.
+struct Found {
     right: bool,
     end: usize,
 }
 
 // Whether so many values of z stand in bytes from a place on, and then the place behind them.
-fn values_at(bytes: &[u8], at: usize, count: usize) -> Values
+fn values_at(bytes: &[u8], at: usize, count: usize) -> Found
     requires { ⌜ (at < 2 ^ 18) × (count ≤ 1024) ⌝ }
     ensures { λ r. ⌜ r .right ≡ eachAt (isValue (bitAt (now (bytes .entry)))) (nextValue (bitAt (now (bytes .entry)))) at count ⌝ }
     ensures { λ r. ⌜ (r .right ≡ true → r .end ≡ behind (nextValue (bitAt (now (bytes .entry)))) at count) ⌝ }
@@ -63,7 +63,7 @@ fn values_at(bytes: &[u8], at: usize, count: usize) -> Values
     while i < count {
         let v = value_at(bytes, place);
         if !v.right {
-            return Values {
+            return Found {
                 right: false,
                 end: 0,
             };
@@ -71,7 +71,7 @@ fn values_at(bytes: &[u8], at: usize, count: usize) -> Values
         place = v.next;
         i += 1;
     }
-    Values {
+    Found {
         right: true,
         end: place,
     }
@@ -157,19 +157,19 @@ fn z1_start(bytes: &[u8]) -> usize
 }
 
 // Whether what stands in bytes as fields are fields, and then where they end.
-fn are_fields(bytes: &[u8]) -> Values
+fn are_fields(bytes: &[u8]) -> Found
     ensures { λ r. ⌜ r .right ≡ areFields (bitAt (now (bytes .entry))) ⌝ }
     ensures { λ r. ⌜ (r .right ≡ true → r .end ≡ fieldsEnd (bitAt (now (bytes .entry)))) ⌝ }
 {
     let n = bits::number_at(bytes, 8, 16) as usize;
     if !checks::is_degree(n) {
-        return Values {
+        return Found {
             right: false,
             end: 0,
         };
     }
     if !challenge_passes(bytes, n) {
-        return Values {
+        return Found {
             right: false,
             end: 0,
         };
