@@ -18,6 +18,11 @@ pub record FailsWhere (test : Bool) (applies : Type 0) : Type 0 where
   pub fails : test ≡ false → applies
   pub holds : test ≡ true → applies → ⊥
 
+-- where it never applies, the test holds
+pub holds-unless : {test : Bool} {applies : Type 0} → FailsWhere test applies → (applies → ⊥) → test ≡ true
+holds-unless {test = true} f never = refl
+holds-unless {test = false} f never = absurd (never (f .fails refl))
+
 -- ** A table, line by line
 
 pub refuses : {test : Bool} {applies : Type 0} {later : ℕ → Type 0} (refusal : ℕ) (lines : List Line)

@@ -48,7 +48,10 @@ refusedBy refusal = record { refusal = refusal; map = 0; degree = 0; positions =
 -- a signature of degree 4: challenge, z1 and z2
 abbrev pub signature : FieldSet
 signature =
-    fieldSet 4 (some (0 ∷ 3 ∷ [])) (some (pos 1 ∷ negsuc 1 ∷ pos 3 ∷ negsuc 3 ∷ [])) (some (pos 128 ∷ pos 0 ∷ pos 0 ∷ negsuc 127 ∷ []))
+    fieldSet 4
+    (some (0 ∷ 3 ∷ []))
+    (some (pos 1 ∷ negsuc 1 ∷ pos 3 ∷ negsuc 3 ∷ []))
+    (some (pos 128 ∷ pos 0 ∷ pos 0 ∷ negsuc 127 ∷ []))
 
 abbrev pub signatureStored : List ℕ
 signatureStored = 7 ∷ 0 ∷ 4 ∷ 2 ∷ 0 ∷ 0 ∷ 0 ∷ 3 ∷ 1 ∷ 193 ∷ 64 ∷ 240 ∷ 144 ∷ 4 ∷ 2 ∷ 1 ∷ 128 ∷ 64 ∷ []
@@ -71,7 +74,8 @@ pub record RecordNumbers : Type 0 where
   pub z1-alone : recordOf (fieldSet 4 none (some zeros) none) ≡ zerosStored
   pub z2-alone : recordOf (fieldSet 4 none none (some (ending (negsuc 0)))) ≡ 4 ∷ 0 ∷ 4 ∷ 0 ∷ 128 ∷ 64 ∷ 48 ∷ 48 ∷ []
   -- z1 and z2 are one sequence: 72 bits are nine bytes, and nothing is padded between
-  pub both-halves : recordOf (fieldSet 4 none (some zeros) (some zeros)) ≡ 6 ∷ 0 ∷ 4 ∷ 0 ∷ 128 ∷ 64 ∷ 32 ∷ 16 ∷ 8 ∷ 4 ∷ 2 ∷ 1 ∷ []
+  pub both-halves : recordOf (fieldSet 4 none (some zeros) (some zeros))
+      ≡ 6 ∷ 0 ∷ 4 ∷ 0 ∷ 128 ∷ 64 ∷ 32 ∷ 16 ∷ 8 ∷ 4 ∷ 2 ∷ 1 ∷ []
   pub a-signature : recordOf signature ≡ signatureStored
   -- pads of three, two, one and no bits
   pub pads :
@@ -104,7 +108,11 @@ pub record RecordNumbers : Type 0 where
   pub one-in-padding : fieldSetOf (2 ∷ 0 ∷ 4 ∷ 0 ∷ 128 ∷ 64 ∷ 32 ∷ 17 ∷ []) ≡ none
   pub byte-more : fieldSetOf (zerosStored ++ (0 ∷ [])) ≡ none
   pub byte-less : fieldSetOf (2 ∷ 0 ∷ 4 ∷ 0 ∷ 128 ∷ 64 ∷ 32 ∷ []) ≡ none
-  pub other-bits-of-map : fieldSetOf (8 ∷ 0 ∷ 4 ∷ []) ∷ fieldSetOf (16 ∷ 0 ∷ 4 ∷ []) ∷ fieldSetOf (128 ∷ 0 ∷ 4 ∷ []) ∷ []
+  pub other-bits-of-map :
+      fieldSetOf (8 ∷ 0 ∷ 4 ∷ [])
+      ∷ fieldSetOf (16 ∷ 0 ∷ 4 ∷ [])
+      ∷ fieldSetOf (128 ∷ 0 ∷ 4 ∷ [])
+      ∷ []
       ≡ none ∷ none ∷ none ∷ []
   pub degree-12 : fieldSetOf (0 ∷ 0 ∷ 12 ∷ []) ≡ none
   -- 4, with a zero behind the bytes, would be 1,024

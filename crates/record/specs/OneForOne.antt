@@ -27,7 +27,8 @@ RoundTrip = (f : FieldSet) → isFieldSet f ≡ true → fieldSetOf (recordOf f)
 -- what is read can be stored, and the bytes are its record: a field set has just one
 abbrev pub JustOneRecord : Type 0
 JustOneRecord =
-    (bytes : List ℕ) (f : FieldSet) → AreBytes bytes → fieldSetOf bytes ≡ some f → (isFieldSet f ≡ true) × (recordOf f ≡ bytes)
+    (bytes : List ℕ) (f : FieldSet) → AreBytes bytes → fieldSetOf bytes ≡ some f
+    → (isFieldSet f ≡ true) × (recordOf f ≡ bytes)
 
 -- two field sets with the same record are the same
 abbrev pub JustOneFieldSet : Type 0

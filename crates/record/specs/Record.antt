@@ -52,19 +52,21 @@ abbrev pub negative : ℤ → Bool
 negative (pos n) = false
 negative (negsuc n) = true
 
--- a sign bit, seven low bits of the size, then size/128 zeros and a one
+-- a sign bit, 1 where the value is negative, and so 0 for zero; seven low bits of the size, the highest first; then size/128 zeros and a
+-- one
 unfoldable pub valueBits : ℤ → List Bool
 valueBits v = negative v ∷ (digits 7 (natAbs v) ++ (replicate (natAbs v / 128) false ++ (true ∷ [])))
 
--- a count byte, and positions of two bytes
+-- a count byte, and positions of two bytes, the high byte first
 unfoldable pub challengeBits : List ℕ → List Bool
 challengeBits challenge = digits 8 (length challenge) ++ joined (digits 16) challenge
 
--- the bit map: bit 0 challenge, bit 1 z1, bit 2 z2, the others 0
+-- the bit map, its highest bit first: bit 0 challenge, bit 1 z1, bit 2 z2, the others 0
 unfoldable pub mapBits : FieldSet → List Bool
 mapBits f = replicate 5 false ++ (stands (f .z2) ∷ (stands (f .z1) ∷ (stands (f .challenge) ∷ [])))
 
--- the bit map, two bytes of n, then only the fields whose bit stands
+-- the bit map, two bytes of n, the high byte first, then only the fields whose bit stands, in that order: the bits of z1 and z2 are one
+-- sequence
 unfoldable pub fieldBits : FieldSet → List Bool
 fieldBits f =
     mapBits f
@@ -75,6 +77,6 @@ fieldBits f =
 
 -- ** The record
 
--- the bits in bytes, padded with zeros
+-- the bits in bytes, each filled from its highest bit, the last one padded with zeros
 unfoldable pub recordOf : FieldSet → List ℕ
 recordOf f = packed (fieldBits f)

@@ -1,15 +1,15 @@
 -- What a write answers, and leaves. Assumes nothing.
-use mathlib.Core.Path.{_≡_, refl, sym, ap₂, _∙_}
+use mathlib.Core.Path.{_≡_, refl, sym, ap₂}
 use mathlib.Core.Bool.{true, _&&_}
 use mathlib.Core.List.{List, _++_}
 use mathlib.Core.Option.{Option, none, some}
 use Prim.Native.Nat.{ℕ, _≤_, _<_}
-use native.Mathlib.Nat.{zero-add}
 use native.Mathlib.Omega.{arith}
 use borrow.Author.Tests.{ne-eqb}
 use lib.IntN.{ℤ}
 use lib.ListN.{length, drop}
-use lib.Seq.{sets, sets-eq}
+use lib.Seq.{sets}
+use Rattle.lists.proofs.AtTheStart.{written}
 use Rattle.bits.specs.Items.{passes}
 use Rattle.checks.specs.Checks.{isDegree}
 use Rattle.checks.proofs.JoinedTests.{both-true}
@@ -44,5 +44,5 @@ pub left-served : (f : FieldSet) (out : List ℕ) {now : List ℕ} {size : ℕ} 
     → size ≡ length (recordOf f) → size ≤ length out → afterWrite (answer 0 size) (now ++ drop size out) ≡ writeLeft f out
 unfolding writeLeft
 left-served f out {now = now} {size = size} e g l h =
-    let whole : now ++ drop size out ≡ sets out 0 (recordOf f) = sym (sets-eq (recordOf f) out 0 (omega (arith, l, h)) ∙ rw (zero-add (length (recordOf f)), ← l, g)) in
+    let whole : now ++ drop size out ≡ sets out 0 (recordOf f) = rw (l, g) (sym (written out (recordOf f) (omega (arith, l, h)))) in
     rw e (ap₂ (λ (k : ℕ) (page : List ℕ). afterWrite (answer 0 k) page) l whole)

@@ -61,7 +61,8 @@ fn values_length(values: &[i32]) -> usize
 // Puts a value into bytes from a place on: its sign and seven low bits of its size, then zeros and a one. Gives the place behind it.
 fn put_value(page: &mut [u8], at: usize, value: i32) -> usize
     requires { ⌜ (natAbs value ≤ valueLimit) × (at < 2 ^ 20) × (at + length (valueBits value) ≤ 8 * length (now page)) ⌝ }
-    ensures { λ r. ⌜ (r ≡ at + length (valueBits value)) × (now (page .exit) ≡ putBits (now (page .entry)) at (valueBits value)) ⌝ }
+    ensures { λ r. ⌜ (r ≡ at + length (valueBits value))
+        × (now (page .exit) ≡ putBits (now (page .entry)) at (valueBits value)) ⌝ }
 {
     let size = size_of(value);
     let minus = (value < 0) as u32;

@@ -8,7 +8,7 @@ use native.Mathlib.Nat.{mul-le-mul, suc-inj}
 use native.Mathlib.Omega.{arith}
 use lib.Dec.{leb}
 use lib.IntN.{ℤ, pos, natAbs, _+ℤ_, _*ℤ_, +ℤ-idl, +ℤ-idr, +ℤ-assoc}
-use lib.ListN.{length, getD, take, drop}
+use lib.ListN.{length, getD, take, drop, replicate}
 use lib.Seq.{getD-take}
 use borrow.Author.Tests.{leb-true, le-leb}
 use Rattle.signed.specs.Vectors.{allWithin, squareSum, innerProduct, SquaresByOneMore, ProductsByOneMore}
@@ -32,6 +32,10 @@ pub within-more : (bound : ℕ) (v : ℤ) (values : List ℤ) → natAbs v ≤ b
     → allWithin bound (v ∷ values) ≡ true
 unfolding allWithin
 within-more bound v values h g = rw (le-leb (natAbs v) bound h, g)
+
+pub zeros-within : (bound k : ℕ) → allWithin bound (replicate k (pos 0)) ≡ true
+zeros-within bound zero = within-none bound
+zeros-within bound (suc k) = within-more bound (pos 0) (replicate k (pos 0)) (omega arith) (zeros-within bound k)
 
 -- every value is within the bound, and so is what stands for values behind the last
 pub within-at : (bound : ℕ) (values : List ℤ) → allWithin bound values ≡ true → (i : ℕ) → natAbs (getD values i (pos 0)) ≤ bound

@@ -21,7 +21,7 @@ use Rattle.record.proofs.FieldSets.{length-fields}
 use Rattle.record.proofs.OneForOne.{round-trip, just-one-record, just-one-field-set, records-alone}
 use Rattle.record_reader.specs.Call.{mapOf, contentsOf, noContents, haveRoom, ReadLeft, afterRead, readServed, handedOver, readLeft}
 use Rattle.record_reader.proofs.ReadLaws.{fits}
-use Rattle.storing.specs.Reading.{NoRecord, Short, NoRoom, ReadRefuses, ReadRefusesFirst, Handed, ReadsTheFields, RefusedReadLeaves}
+use Rattle.storing.specs.Reading.{NoRecord, Short, NoRoom, ReadRefuses, ReadRefusesFirst, Handed, ReadsTheFields, LeavesAll, RefusedReadLeaves}
 
 -- ** The refusal
 
@@ -138,19 +138,16 @@ reads-the-fields f challenge z1 z2 h e =
 
 -- a refusal leaves all
 refused-room : (f : FieldSet) (challenge : List ℕ) (z1 z2 : List ℤ) (room : Bool)
-    → let left = cond room (readServed f challenge z1 z2) (afterRead (noContents 14) challenge z1 z2) in
-    (left .contents .refusal ≡ 0 → ⊥) → left ≡ afterRead (noContents (left .contents .refusal)) challenge z1 z2
+    → LeavesAll (cond room (readServed f challenge z1 z2) (afterRead (noContents 14) challenge z1 z2)) challenge z1 z2
 unfolding contentsOf noContents
 refused-room f challenge z1 z2 true h = absurd (h refl)
 refused-room f challenge z1 z2 false h = refl
 
-refused-set : (set : Option FieldSet) (challenge : List ℕ) (z1 z2 : List ℤ) → let left = handedOver set challenge z1 z2 in
-    (left .contents .refusal ≡ 0 → ⊥) → left ≡ afterRead (noContents (left .contents .refusal)) challenge z1 z2
+refused-set : (set : Option FieldSet) (challenge : List ℕ) (z1 z2 : List ℤ) → LeavesAll (handedOver set challenge z1 z2) challenge z1 z2
 unfolding handedOver noContents
 refused-set none challenge z1 z2 h = refl
 refused-set (some f) challenge z1 z2 h =
     refused-room f challenge z1 z2 (haveRoom (contentsOf f) (length challenge) (length z1) (length z2)) h
 
 pub refused-read-leaves : RefusedReadLeaves
-unfolding noContents
-refused-read-leaves bytes challenge z1 z2 h = refused-set (fieldSetOf bytes) challenge z1 z2 h
+refused-read-leaves bytes challenge z1 z2 = refused-set (fieldSetOf bytes) challenge z1 z2

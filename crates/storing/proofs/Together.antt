@@ -3,7 +3,7 @@ use mathlib.Core.Path.{_≡_, refl, sym, ap, _∙_}
 use mathlib.Core.Bool.{Bool, true, false, cond}
 use mathlib.Core.List.{List, _++_}
 use mathlib.Core.Option.{Option, none, some}
-use Prim.Native.Nat.{ℕ, zero, suc, _+_, _*_, _/_, _≤_}
+use Prim.Native.Nat.{ℕ, _+_, _*_, _/_, _≤_}
 use native.Mathlib.Nat.{le-trans}
 use native.Mathlib.Omega.{arith}
 use borrow.Author.Tests.{eq-eqb}
@@ -15,8 +15,8 @@ use Rattle.bits.specs.Bits.{odd}
 use Rattle.bits.specs.Items.{given, stands, itemsOf}
 use Rattle.lists.proofs.AtTheStart.{take-written}
 use Rattle.signed.specs.Vectors.{allWithin}
-use Rattle.signed.proofs.Vectors.{within-none, within-more, within-at, first-within, within-drop}
-use Rattle.checks.proofs.RefusalTable.{FailsWhere}
+use Rattle.signed.proofs.Vectors.{zeros-within, within-at, first-within, within-drop}
+use Rattle.checks.proofs.RefusalTable.{holds-unless}
 use Rattle.challenge_product.specs.Product.{product}
 use Rattle.challenge_product.proofs.ProductSizes.{product-within, length-product}
 use Rattle.response.specs.Response.{subtracts, responseOf, responseZ, respondedBy}
@@ -36,10 +36,6 @@ use Rattle.storing.specs.Reading.{Short, Gives}
 use Rattle.storing.specs.Together.{toldAgain, allFields, WrittenIsRead, ReadIsWritten, ResponsesAreStored}
 
 -- ** What is written is read
-
-holds-unless : {test : Bool} {applies : Type 0} → FailsWhere test applies → (applies → ⊥) → test ≡ true
-holds-unless {test = true} f never = refl
-holds-unless {test = false} f never = absurd (never (f .fails refl))
 
 -- bytes that are the record of a field set, read with room for its fields
 read-so : (f : FieldSet) (bytes challenge : List ℕ) (z1 z2 : List ℤ) → isFieldSet f ≡ true → bytes ≡ recordOf f
@@ -116,10 +112,6 @@ read-is-written bytes challenge z1 z2 out small h enough =
     rw same (written-so (r .set) bytes out (r .storable) (r .stored) enough)
 
 -- ** Responses
-
-zeros-within : (bound k : ℕ) → allWithin bound (replicate k (pos 0)) ≡ true
-zeros-within bound zero = within-none bound
-zeros-within bound (suc k) = within-more bound (pos 0) (replicate k (pos 0)) (omega arith) (zeros-within bound k)
 
 -- both halves of 2n values that are not too large can be stored
 halves-right : (n : ℕ) (z : List ℤ) → length z ≡ 2 * n → allWithin valueLimit z ≡ true

@@ -117,4 +117,6 @@ same-set n ec ea eb = rw (ec, ea, eb)
 
 pub untold-untested : UntoldUntested
 untold-untested n fields challenge challenge′ z1 z1′ z2 z2′ out c a b =
-    ap (λ (f : FieldSet). writeLeft f out) (same-set n (given-same c) (given-same a) (given-same b))
+    let same : told n fields challenge z1 z2 ≡ told n fields challenge′ z1′ z2′ =
+    same-set n (given-same c) (given-same a) (given-same b) in
+    ap (λ (f : FieldSet). writeLeft f out) same

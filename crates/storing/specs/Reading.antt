@@ -67,10 +67,12 @@ ReadsTheFields =
     (f : FieldSet) (challenge : List ℕ) (z1 z2 : List ℤ) → let left = readLeft (recordOf f) challenge z1 z2 in
     isFieldSet f ≡ true → left .contents .refusal ≡ 0 → Gives f challenge z1 z2 left
 
--- a refused one leaves every output, and all numbers but the refusal are 0
-abbrev pub RefusedReadLeaves : Type 0
-RefusedReadLeaves =
-    (bytes challenge : List ℕ) (z1 z2 : List ℤ) → let left = readLeft bytes challenge z1 z2 in
+-- a read that is refused leaves every output, and all numbers but the refusal are 0
+abbrev pub LeavesAll : (left : ReadLeft) (challenge : List ℕ) (z1 z2 : List ℤ) → Type 0
+LeavesAll left challenge z1 z2 =
     (left .contents .refusal ≡ 0 → ⊥) →
     let refused : Contents = record { refusal = left .contents .refusal; map = 0; degree = 0; positions = 0; z1 = 0; z2 = 0 } in
     left ≡ afterRead refused challenge z1 z2
+
+abbrev pub RefusedReadLeaves : Type 0
+RefusedReadLeaves = (bytes challenge : List ℕ) (z1 z2 : List ℤ) → LeavesAll (readLeft bytes challenge z1 z2) challenge z1 z2

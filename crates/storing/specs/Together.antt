@@ -61,5 +61,7 @@ ResponsesAreStored =
     (s : Session) (r : Respond) (out : List ℕ) →
     let n = s .degree in
     let left = respondLeft s r in
-    left .responded .answer .refusal ≡ 0 → isChallenge n (r .challenge) ≡ true → longest n (length (r .challenge)) ≤ length out →
+    left .responded .answer .refusal ≡ 0 →
+    isChallenge n (r .challenge) ≡ true →
+    longest n (length (r .challenge)) ≤ length out →
     writeLeft (told n allFields (r .challenge) (take n (left .z)) (drop n (left .z))) out .written .refusal ≡ 0

@@ -47,8 +47,11 @@ WritesFieldSets =
 -- unchanged, and 0 is answered
 pub record WriteLeaves (f : FieldSet) (out : List ℕ) : Type 0 where
   pub served : writeLeft f out .written .refusal ≡ 0
-      → (writeLeft f out .written .length ≡ length (recordOf f)) × (writeLeft f out .out ≡ recordOf f ++ drop (length (recordOf f)) out)
-  pub refused : (writeLeft f out .written .refusal ≡ 0 → ⊥) → (writeLeft f out .written .length ≡ 0) × (writeLeft f out .out ≡ out)
+      → (writeLeft f out .written .length ≡ length (recordOf f))
+      × (writeLeft f out .out ≡ recordOf f ++ drop (length (recordOf f)) out)
+  pub refused : (writeLeft f out .written .refusal ≡ 0 → ⊥)
+      → (writeLeft f out .written .length ≡ 0)
+      × (writeLeft f out .out ≡ out)
 
 abbrev pub WritesTheRecord : Type 0
 WritesTheRecord = (f : FieldSet) (out : List ℕ) → WriteLeaves f out
@@ -57,5 +60,7 @@ WritesTheRecord = (f : FieldSet) (out : List ℕ) → WriteLeaves f out
 abbrev pub UntoldUntested : Type 0
 UntoldUntested =
     (n : ℕ) (fields : Fields) (challenge challenge′ : List ℕ) (z1 z1′ z2 z2′ : List ℤ) (out : List ℕ)
-    → (fields .challenge ≡ true → challenge ≡ challenge′) → (fields .z1 ≡ true → z1 ≡ z1′) → (fields .z2 ≡ true → z2 ≡ z2′)
+    → (fields .challenge ≡ true → challenge ≡ challenge′)
+    → (fields .z1 ≡ true → z1 ≡ z1′)
+    → (fields .z2 ≡ true → z2 ≡ z2′)
     → writeLeft (told n fields challenge z1 z2) out ≡ writeLeft (told n fields challenge′ z1′ z2′) out
