@@ -381,7 +381,7 @@ bliss_written bliss_write_record(size_t n, bliss_fields fields,                 
                                  const int32_t *z2, size_t z2_length,                //
                                  uint8_t *out, size_t out_length);
 
-/* What a record has; all 0 where the call is refused. */
+/* What a record has; where the call is refused, all 0 but the refusal. */
 typedef struct {
     uint32_t refusal;
     uint32_t map;     /* 1 for the challenge, 2 for z1 and 4 for z2, added up */
