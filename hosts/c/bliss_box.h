@@ -54,8 +54,8 @@ extern "C" {
  * C99 has no static assertions. */
 #define BLISS_LAYOUT(name, claim) typedef char bliss_layout_of_##name[(claim) ? 1 : -1]
 
-/* The version of this header, 10000 * major + 100 * minor + patch: 0.5.0. */
-#define BLISS_BOX_VERSION 500
+/* The version of this header, 10000 * major + 100 * minor + patch: 0.6.0. */
+#define BLISS_BOX_VERSION 600
 
 /* The version of the archive, by the same rule. A host compares it with BLISS_BOX_VERSION at its start, before any other call,
  * and ends where they differ: a session travels by value, and an archive of another version may take its bytes for something
@@ -408,6 +408,13 @@ bliss_contents bliss_read_record(const uint8_t *bytes, size_t bytes_length,    /
                                  uint32_t *challenge, size_t challenge_length, //
                                  int32_t *z1, size_t z1_length,                //
                                  int32_t *z2, size_t z2_length);
+
+/* The packed length of a value of z1 or z2: how many bits it takes in a record, by its size, which is the value without its sign.
+ * Gives:   the entry at size / 128 of the table by which records are written and read, 9 to 34, for a size from 0 to
+ *          BLISS_VALUE_LIMIT; 0, which is no length, for any other.
+ * Time:    jumps and addresses depend on the size, which must be that of a value that is published. */
+BLISS_MUST_USE
+size_t bliss_packed_length(uint32_t size);
 
 /* ==== Exponential ========================================================================================================= */
 

@@ -168,6 +168,12 @@ static bool record_ends_at_its_limits(void)
     return written.refusal == BLISS_REFUSED_RECORD;
 }
 
+static bool lengths_end_at_their_limit(void)
+{
+    return bliss_packed_length(0) == 9 && bliss_packed_length(BLISS_VALUE_LIMIT) == 34 &&
+           bliss_packed_length(BLISS_VALUE_LIMIT + 1) == 0;
+}
+
 int main(void)
 {
     bliss_opened opened;
@@ -181,7 +187,7 @@ int main(void)
         return 3;
     if (!numbers_go_up() || !entry_is_taken_apart(BLISS_KIND_BIT, 1))
         return 4;
-    if (!record_ends_at_its_limits())
+    if (!record_ends_at_its_limits() || !lengths_end_at_their_limit())
         return 5;
     return POSITIONS <= BLISS_CHALLENGE_LIMIT(DEGREE) && BLISS_STACK_BYTES > 0 && BLISS_CHECK_KEY_STACK_BYTES > 0 ? 0 : 6;
 }

@@ -1,5 +1,5 @@
 /* Records as bytes that are worked out by hand: written, read, and refused. Each buffer that is lent stands between guards, and
- * what a call must leave is compared. */
+ * what a call must leave is compared. Then the packed length of every size. */
 #include "bliss_box.h"
 
 #include <stdio.h>
@@ -277,6 +277,21 @@ static void test_order(void)
     CHECK("14", write_is_refused(BLISS_REFUSED_OUTPUT, DEGREE, challenge, POSITIONS, z1, DEGREE, z2, DEGREE, 23));
 }
 
+/* Entry k of the table of packed lengths is 9 + k, for 128 sizes; the last of the 26 is for 64. Above that there is none. */
+static void test_lengths(void)
+{
+    enum { ENTRIES = 26, SIZES = 128 };
+    static const uint32_t others[] = {3264, 3327, 3328, 1 << 16, (1 << 16) + 1, INT32_MAX, UINT32_C(1) << 31, UINT32_MAX};
+    uint32_t size = 0;
+
+    for (size_t k = 0; k < ENTRIES; k++)
+        for (; size <= BLISS_VALUE_LIMIT && size < SIZES * (k + 1); size++)
+            CHECK("packed length", bliss_packed_length(size) == 9 + k);
+    CHECK("packed length", size == BLISS_VALUE_LIMIT + 1);
+    for (size_t i = 0; i < sizeof others / sizeof *others; i++)
+        CHECK("no packed length", bliss_packed_length(others[i]) == 0);
+}
+
 int main(void)
 {
     for (size_t i = 0; i < sizeof records / sizeof *records; i++) {
@@ -294,6 +309,7 @@ int main(void)
     test_halves();
     test_short();
     test_order();
+    test_lengths();
     printf("records: %zu claims%s\n", claims, right ? "" : ", and some are false");
     return !right;
 }

@@ -115,6 +115,8 @@ static void make_other_calls(void)
     as_chosen &= bliss_open(1024).refusal == BLISS_SERVED;
     as_chosen &= bliss_open(1023).refusal == BLISS_REFUSED_DEGREE;
     as_chosen &= bliss_filled(list, 1, 1) == 1;
+    as_chosen &= bliss_packed_length(BLISS_VALUE_LIMIT) == 34;
+    as_chosen &= bliss_packed_length(UINT32_MAX) == 0;
     as_chosen &= bliss_exponential(0) == one;
     as_chosen &= bliss_exponential(UINT64_MAX) == BLISS_EXPONENTIAL_REFUSED;
 }

@@ -1,6 +1,6 @@
 -- A loop over items in a stream: i of count are behind it, and the others stand from a place on. Assumes nothing.
 use mathlib.Core.Path.{_≡_, refl, ap, _∙_}
-use mathlib.Core.Bool.{Bool, true, false, _&&_}
+use mathlib.Core.Bool.{Bool, true, false, _&&_, and-eq-true-iff}
 use mathlib.Core.List.{List}
 use Prim.Native.Nat.{ℕ, zero, suc, _+_, _-_, _≤_, _<_}
 use native.Mathlib.Numerals.{add-one}
@@ -82,6 +82,10 @@ module _ (next : ℕ → ℕ) (at count : ℕ) where
 
     pub pass-fails : {place i : ℕ} → i < count → test place ≡ false → Passed place i → false ≡ eachAt test next at count
     pass-fails l e p = rw e at (next-tested l p)
+
+    -- where all pass, so does the next one
+    pub passes-next : {place i : ℕ} → i < count → eachAt test next at count ≡ true → Passed place i → test place ≡ true
+    passes-next {place = place} l all p = and-eq-true-iff (test place) _ .0 (next-tested l p ∙ all) .0
 
     pub pass-end : {place i : ℕ} → count ≤ i → Passed place i → true ≡ eachAt test next at count
     unfolding eachAt

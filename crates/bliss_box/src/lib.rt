@@ -5,6 +5,7 @@ ghost use Rattle.read_list.specs.Entries.{filledPart};
 ghost use Rattle.exponential.specs.Exponential.{expOrRefusal};
 ghost use Rattle.session.specs.Calls.{opened, drawOf, afterDraw, drawLeft, respondOf, afterRespond, respondLeft};
 ghost use Rattle.key_check.specs.KeyCheck.{keyAnswer};
+ghost use Rattle.record.specs.Lengths.{packedLength};
 ghost use Rattle.record_writer.specs.Call.{told, afterWrite, writeLeft};
 ghost use Rattle.record_reader.specs.Call.{afterRead, readLeft};
 ghost use Rattle.bliss_box.specs.Version.{version};
@@ -22,7 +23,7 @@ use session::Session;
 pub extern "C" fn bliss_version() -> u32
     ensures { λ r. ⌜ r ≡ version ⌝ }
 {
-    500
+    600
 }
 
 // Opens a session of degree n.
@@ -125,4 +126,12 @@ pub extern "C" fn bliss_read_record(
         ≡ readLeft (now (bytes .entry)) (now (challenge .entry)) (now (z1 .entry)) (now (z2 .entry)) ⌝ }
 {
     record_reader::read(bytes, challenge, z1, z2)
+}
+
+// The packed length of a value of this size in a record, in bits; or 0, which is no length, where it is above 3,263.
+#[no_mangle]
+pub extern "C" fn bliss_packed_length(size: u32) -> usize
+    ensures { λ r. ⌜ r ≡ packedLength size ⌝ }
+{
+    record::packed_length(size)
 }

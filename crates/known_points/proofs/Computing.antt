@@ -21,6 +21,7 @@ use Rattle.refusals.specs.Refusals.{openRefusal, drawRefusal, noiseRefusal, res
 use Rattle.session.specs.Calls.{opened, refusalOfDraw, bitsOfDraw, drawRefused, drawServed, drawLeft}
 use Rattle.session.specs.Calls.{refusalOfRespond, bitOfRespond, zOfRespond, respondRefused, respondServed, respondLeft}
 use Rattle.record.specs.Record.{valueBits, challengeBits, mapBits, fieldBits, recordOf}
+use Rattle.record.specs.Lengths.{packedLength}
 use Rattle.record.specs.Reading.{valueAt, nextValue, isValue, positionsAt, z1Start, z2Start, fieldsEnd, fieldsOf, areFields, isRecord}
 use Rattle.record.specs.Reading.{fieldSetOf}
 use Rattle.record_writer.specs.Call.{writeRefusal, writeLeft}
@@ -66,8 +67,8 @@ keyChecks = tt
 -- records, and calls that write and read them
 unfoldable pub records : Unit {0}
 unfolding digits number zeros bitOf bytesFrom packed joined given stands formIf itemsOf passes itemsAt behind eachAt
-    valueBits challengeBits mapBits fieldBits recordOf valueAt nextValue isValue positionsAt z1Start z2Start fieldsEnd fieldsOf areFields
-    isRecord fieldSetOf writeRefusal writeLeft contentsOf noContents handedOver
+    valueBits challengeBits mapBits fieldBits recordOf packedLength valueAt nextValue isValue positionsAt z1Start z2Start fieldsEnd fieldsOf
+    areFields isRecord fieldSetOf writeRefusal writeLeft contentsOf noContents handedOver
 records = tt
 
 -- read lists

@@ -1,14 +1,15 @@
--- Request S-3, the record of a signature, in bits and bytes worked out by hand: forms of values, records, bytes that are none, and the
--- order of refusals. negsuc k is -(k + 1). Assumes nothing.
+-- Requests S-3 and S-4, the record of a signature, in bits and bytes worked out by hand: forms of values and their lengths, records, bytes
+-- that are none, and the order of refusals. negsuc k is -(k + 1). Assumes nothing.
 use mathlib.Core.Path.{_≡_}
 use mathlib.Core.Bool.{Bool, true, false}
 use mathlib.Core.List.{List, [], _∷_, _++_}
 use mathlib.Core.Option.{Option, none, some}
 use Prim.Native.Nat.{ℕ, _+_}
 use lib.IntN.{ℤ, pos, negsuc}
-use lib.ListN.{replicate}
+use lib.ListN.{length, replicate}
 use Rattle.response.specs.Response.{responseBound}
 use Rattle.record.specs.Record.{FieldSet, valueLimit, valueBits, recordOf}
+use Rattle.record.specs.Lengths.{packedLengths, packedLength}
 use Rattle.record.specs.Reading.{fieldSetOf}
 use Rattle.record.specs.OneForOne.{longest}
 use Rattle.record_writer.specs.declared.Fields.{Fields}
@@ -64,6 +65,21 @@ pub record RecordNumbers : Type 0 where
   pub bits-of-127 : valueBits (pos 127) ≡ false ∷ replicate 8 true
   pub bits-of-128 : valueBits (pos 128) ≡ replicate 9 false ++ (true ∷ [])
   pub bits-of-3263 : valueBits (negsuc 3262) ≡ true ∷ false ∷ (replicate 6 true ++ (replicate 25 false ++ (true ∷ [])))
+  --
+  -- ** Packed lengths, of request S-4: 26, each for 128 sizes but the last, which is for 64
+  pub how-many-lengths : length packedLengths ≡ 26
+  pub packed-lengths :
+      packedLength 0
+      ∷ packedLength 127
+      ∷ packedLength 128
+      ∷ packedLength 255
+      ∷ packedLength 256
+      ∷ packedLength 3199
+      ∷ packedLength 3200
+      ∷ packedLength 3263
+      ∷ []
+      ≡ 9 ∷ 9 ∷ 10 ∷ 10 ∷ 11 ∷ 33 ∷ 34 ∷ 34 ∷ []
+  pub no-length : packedLength 3264 ∷ packedLength 3328 ∷ packedLength 4294967295 ∷ [] ≡ 0 ∷ 0 ∷ 0 ∷ []
   --
   -- ** Records
   -- a map of 0 is a record of three bytes, with the high byte of n first

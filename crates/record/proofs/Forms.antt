@@ -24,7 +24,9 @@ use Rattle.challenge.specs.Challenge.{isChallenge}
 use Rattle.challenge.proofs.Positions.{challenge-of, position-below}
 use Rattle.signed.proofs.Signs.{fits-of-abs}
 use Rattle.record.specs.Record.{valueLimit, isHalf, negative, valueBits, challengeBits}
+use Rattle.record.specs.Lengths.{packedLength}
 use Rattle.record.proofs.FieldSets.{length-value}
+use Rattle.record.proofs.Lengths.{packed-size}
 use Rattle.record.specs.Reading.{withSign, countIf, zerosAt, sizeAt, valueAt, nextValue, isValue, positionsAt, challengeAt, nextChallenge}
 
 -- ** A value by its sign and size
@@ -94,6 +96,13 @@ module _ (s : ℕ → Bool) where
         ends = value-ends at v over;
         passed = rw (h .0, size, le-leb x valueLimit small) (no-minus-zero v);
       }
+
+  -- where it ends, by the packed length of the size that is found
+  pub packed-next : (at : ℕ) → isValue s at ≡ true → at + packedLength (sizeAt s at) ≡ nextValue s at
+  unfolding isValue nextValue
+  packed-next at h =
+      let l = leb-true (sizeAt s at) valueLimit (both-true (leb (sizeAt s at) valueLimit) _ h .0) in
+      omega (arith, packed-size l, number-below s (at + 1) 7)
 
   pub reads-value : Reads s valueBits (λ (v : ℤ). natAbs v ≤ valueLimit) (valueAt s) (nextValue s) (isValue s)
   reads-value = record { sound = value-sound; complete = value-complete }

@@ -1,3 +1,4 @@
 pub mod FieldSets
+pub mod Lengths
 pub mod Forms
 pub mod OneForOne

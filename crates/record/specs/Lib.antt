@@ -1,3 +1,4 @@
 pub mod Record
+pub mod Lengths
 pub mod Reading
 pub mod OneForOne

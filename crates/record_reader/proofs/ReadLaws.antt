@@ -10,13 +10,14 @@ use lib.IntN.{ℤ}
 use lib.ListN.{length}
 use lib.Seq.{sets}
 use Rattle.bits.specs.Bits.{number, bitAt}
-use Rattle.bits.specs.Items.{given, itemsAt, behind, itemsOf}
+use Rattle.bits.specs.Items.{given, itemsAt, behind, eachAt, itemsOf}
 use Rattle.bits.proofs.Numbers.{number-below}
 use Rattle.checks.specs.Checks.{isDegree}
 use Rattle.checks.proofs.JoinedTests.{both-true, below-not-above, allHold, orFails, one-fails}
 use Rattle.checks.proofs.Degrees.{degree-range}
+use Rattle.challenge.specs.Challenge.{isChallenge}
 use Rattle.record_reader.specs.declared.Contents.{Contents}
-use Rattle.record.specs.Reading.{valueAt, nextValue, positionsAt, degreeOf, countIf, z1Start, z2Start, fieldsOf, areFields, isRecord, fieldSetOf}
+use Rattle.record.specs.Reading.{valueAt, nextValue, isValue, positionsAt, challengeAt, degreeOf, hasChallenge, hasZ1, countIf, z1Start, z2Start, fieldsOf, areFields, isRecord, fieldSetOf}
 use Rattle.record_reader.specs.Call.{contentsOf, noContents, haveRoom, afterRead, handedOver, readLeft}
 use Rattle.record_reader.proofs.Fields.{count-most, items-given, length-given, z2-start-most}
 
@@ -37,6 +38,15 @@ module _ (s : ℕ → Bool) where
   z2-count : answer .z2 ≡ countIf (s 5) (degreeOf s)
   unfolding contentsOf fieldsOf
   z2-count = length-given (valueAt s) (nextValue s) (z2Start s) (degreeOf s) (s 5)
+
+  -- the values of z1 and z2 are values
+  pub are-values : areFields s ≡ true →
+      (eachAt (isValue s) (nextValue s) (z1Start s) (answer .z1) ≡ true) × (eachAt (isValue s) (nextValue s) (z2Start s) (answer .z2) ≡ true)
+  unfolding areFields
+  are-values h =
+      let t = both-true (isDegree (degreeOf s)) _ h in
+      let u = both-true (not (hasChallenge s) || isChallenge (degreeOf s) (challengeAt s 24)) _ (t .1) in
+      rw (z1-count, z2-count) (both-true (eachAt (isValue s) (nextValue s) (z1Start s) (countIf (hasZ1 s) (degreeOf s))) _ (u .1))
 
   pub positions-read : positionsAt s 32 (answer .positions) ≡ itemsOf (fieldsOf s .challenge)
   unfolding fieldsOf positionsAt

@@ -12,7 +12,7 @@ ghost use Rattle.record.specs.Reading.{withSign, valueAt, nextValue, isValue, p
 ghost use Rattle.record.specs.Reading.{fieldsOf, fieldsEnd, areFields, isRecord};
 ghost use Rattle.record_reader.specs.Call.{contentsOf, noContents, haveRoom, afterRead, readLeft};
 
-// What stands in bytes as a value of z: the value, whether it may stand in a record, and the place behind it.
+// What stands in bytes as a value of z: the value, whether it may stand in a record, and then the place behind it.
 struct Value {
     value: i32,
     right: bool,
@@ -31,8 +31,8 @@ fn with_sign(minus: bool, size: u32) -> i32
 fn value_at(bytes: &[u8], at: usize) -> Value
     requires { ⌜ at < 2 ^ 20 ⌝ }
     ensures { λ r. ⌜ (r .value ≡ valueAt (bitAt (now (bytes .entry))) at)
-        × (r .right ≡ isValue (bitAt (now (bytes .entry))) at)
-        × (r .next ≡ nextValue (bitAt (now (bytes .entry))) at) ⌝ }
+        × (r .right ≡ isValue (bitAt (now (bytes .entry))) at) ⌝ }
+    ensures { λ r. ⌜ (r .right ≡ true → r .next ≡ nextValue (bitAt (now (bytes .entry))) at) ⌝ }
 {
     let form = bits::number_at(bytes, at, 34);
     let minus = form >> 33 == 1;
@@ -42,7 +42,7 @@ fn value_at(bytes: &[u8], at: usize) -> Value
     Value {
         value: with_sign(minus, size),
         right: (size <= record::VALUE_LIMIT) & !(minus & (size == 0)),
-        next: at + 9 + zeros as usize,
+        next: at + record::packed_length(size),
     }
 }
 
@@ -81,6 +81,7 @@ fn values_at(bytes: &[u8], at: usize, count: usize) -> Found
 // place behind them.
 fn get_values(bytes: &[u8], at: usize, count: usize, z: &mut [i32]) -> usize
     requires { ⌜ (at < 2 ^ 18) × (count ≤ 1024) × (count ≤ length (now z)) ⌝ }
+    requires { ⌜ eachAt (isValue (bitAt (now bytes))) (nextValue (bitAt (now bytes))) at count ≡ true ⌝ }
     ensures { λ r. ⌜ r ≡ behind (nextValue (bitAt (now (bytes .entry)))) at count ⌝ }
     ensures { λ _. ⌜ now (z .exit) ≡ sets (now (z .entry)) 0
         (itemsAt (valueAt (bitAt (now (bytes .entry)))) (nextValue (bitAt (now (bytes .entry)))) at count) ⌝ }

@@ -25,14 +25,6 @@ pub struct Written {
     pub length: usize,
 }
 
-// How many bits the form of a value of this size has.
-fn value_length(size: u32) -> usize
-    requires { ⌜ size ≤ valueLimit ⌝ }
-    ensures { λ r. ⌜ r ≡ 9 + size / 128 ⌝ }
-{
-    9 + (size / 128) as usize
-}
-
 // The size of a value that is not too large.
 fn size_of(value: i32) -> u32
     requires { ⌜ natAbs value ≤ valueLimit ⌝ }
@@ -52,7 +44,7 @@ fn values_length(values: &[i32]) -> usize
     let mut sum: usize = 0;
     let mut i: usize = 0;
     while i < values.len() {
-        sum += value_length(size_of(values[i]));
+        sum += record::packed_length(size_of(values[i]));
         i += 1;
     }
     sum
@@ -68,7 +60,7 @@ fn put_value(page: &mut [u8], at: usize, value: i32) -> usize
     let minus = (value < 0) as u32;
     bits::put_eight(page, at, 128 * minus + size % 128);
     bits::put_one(page, at + 8, (size / 128) as usize);
-    at + value_length(size)
+    at + record::packed_length(size)
 }
 
 // Puts values into bytes from a place on. Gives the place behind them.

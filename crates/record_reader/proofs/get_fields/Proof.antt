@@ -6,10 +6,10 @@ use Prim.Native.Nat.{ℕ, _≤_}
 use lib.ListN.{length}
 use lib.Seq.{sets}
 use Rattle.bits.specs.Bits.{bitAt}
-use Rattle.bits.specs.Items.{itemsAt, behind}
+use Rattle.bits.specs.Items.{itemsAt, behind, eachAt}
 use Rattle.record_reader.specs.declared.Contents.{Contents}
-use Rattle.record.specs.Reading.{valueAt, nextValue, positionsAt, z2Start}
-use Rattle.record_reader.proofs.ReadLaws.{Most, most, fits, positions-read, z1-read, z2-read, z2-start-read}
+use Rattle.record.specs.Reading.{valueAt, nextValue, isValue, positionsAt, z2Start}
+use Rattle.record_reader.proofs.ReadLaws.{Most, most, fits, positions-read, z1-read, z2-read, z2-start-read, are-values}
 use Rattle.record_reader.proofs.get_fields.Statement.{statement}
 use Rattle.record_reader.proofs.get_fields.Tie as tie
 
@@ -61,13 +61,21 @@ z1-start-requires c κs = search needs
 get-values-requires : tie.Need-get-values-requires
 get-values-requires c κs =
     let s = from-z1 (c .before) in
-    (omega (arith, c .before .z1-start .ensures .1), omega (arith, ap (λ (k : Contents). k .z1) (s .pre .0 .1), small s .z1), room s .1)
+    let t = bitAt (s .args .bytes .now) in (
+      (omega (arith, c .before .z1-start .ensures .1), omega (arith, ap (λ (k : Contents). k .z1) (s .pre .0 .1), small s .z1), room s .1),
+      ap₂ (λ (i : ℕ) (k : Contents). eachAt (isValue t) (nextValue t) i (k .z1)) (c .before .z1-start .ensures .0) (s .pre .0 .1)
+          ∙ are-values t (s .pre .0 .0) .0,
+    )
 
 get-values-requires-2 : tie.Need-get-values-requires-2
 get-values-requires-2 c κs =
     let v = z1-written c in
     let s = from-z1 (z1-placed v) in
-    (omega (arith, next-is v, small s .z2-start), omega (arith, ap (λ (k : Contents). k .z2) (s .pre .0 .1), small s .z2), room s .2)
+    let t = bitAt (s .args .bytes .now) in (
+      (omega (arith, next-is v, small s .z2-start), omega (arith, ap (λ (k : Contents). k .z2) (s .pre .0 .1), small s .z2), room s .2),
+      ap₂ (λ (i : ℕ) (k : Contents). eachAt (isValue t) (nextValue t) i (k .z2)) (next-is v) (s .pre .0 .1)
+          ∙ are-values t (s .pre .0 .0) .1,
+    )
 
 same-length : tie.Need-same-length
 same-length c = search needs

@@ -1,15 +1,18 @@
 -- `record_reader::value_at` meets its contract: the parts of the longest form. Assumes nothing.
 use borrow.Author.Needs.{needs}
 use native.Mathlib.Omega.{arith}
-use mathlib.Core.Path.{_≡_, _∙_}
+use mathlib.Core.Path.{_≡_, ap, _∙_}
 use mathlib.Core.Bool.{Bool}
-use Prim.Native.Nat.{ℕ, _+_, _-_, _%_, _^_, _≤_, _<_}
+use Prim.Native.Nat.{ℕ, _+_, _-_, _*_, _/_, _%_, _^_, _≤_, _<_}
 use lib.Count.{leadingZeros}
 use Rattle.bits.specs.Bits.{number, bitAt}
 use Rattle.bits.proofs.Numbers.{number-below}
 use Rattle.bits.proofs.Streams.{zeros-most}
 use Rattle.signed.proofs.Signs.{read-back}
-use Rattle.record.specs.Reading.{zerosAt, valueAt, nextValue, isValue}
+use Rattle.record.specs.Lengths.{packedLength}
+use Rattle.record.specs.Reading.{zerosAt, sizeAt, valueAt, isValue}
+use Rattle.record.proofs.Lengths.{packed-most}
+use Rattle.record.proofs.Forms.{packed-next}
 use Rattle.record_reader.proofs.LongestForm.{Parts, parts}
 use Rattle.record_reader.proofs.value_at.Statement.{statement}
 use Rattle.record_reader.proofs.value_at.Tie as tie
@@ -35,6 +38,9 @@ module _ (c : tie.After-number-at) where
   low-small : number stream (at + 1) 7 < 2 ^ 7
   low-small = number-below stream (at + 1) 7
 
+  size-is : c .number-at .result / 2 ^ 26 % 128 + 128 * (leadingZeros 64 (c .number-at .result % 2 ^ 26) - 38) ≡ sizeAt stream at
+  size-is = rw (found .low, zeros-is)
+
 -- ** The needs
 
 number-at-requires : tie.Need-number-at-requires
@@ -58,22 +64,22 @@ add-size c = omega (arith, zeros-is c, few c)
 with-sign-requires : tie.Need-with-sign-requires
 with-sign-requires c κs = omega (arith, zeros-is c, few c)
 
-add-t17 : tie.Need-add-t17
-add-t17 c = search needs
+packed-length-requires : tie.Need-packed-length-requires
+packed-length-requires c κs = search needs
 
-cast-t18 : tie.Need-cast-t18
-cast-t18 c = omega (arith, zeros-is (c .before), few (c .before))
-
-add-t19 : tie.Need-add-t19
-add-t19 c = omega (arith, zeros-is (c .before), few (c .before))
+add-t18 : tie.Need-add-t18
+add-t18 c = omega (arith, packed-most _ (c .packed-length .ensures))
 
 returns : tie.Need-returns
-unfolding valueAt nextValue isValue
+unfolding valueAt isValue
 returns c =
-    let m = found (c .before) .sign in
-    let l = found (c .before) .low in
-    let z = zeros-is (c .before) in
-    (read-back (record { sfits = c .with-sign .ok }) ∙ c .with-sign .ensures ∙ rw (m, l, z), rw (m, l, z), rw z)
+    let r = c .before .before in
+    let m = found r .sign in
+    let l = found r .low in
+    let z = zeros-is r in (
+      (read-back (record { sfits = c .before .with-sign .ok }) ∙ c .before .with-sign .ensures ∙ rw (m, l, z), rw (m, l, z)),
+      λ h. ap (at r +_) (c .packed-length .ensures ∙ ap packedLength (size-is r)) ∙ packed-next (stream r) (at r) (rw (m, l, z) at h),
+    )
 
 pub value-at-spec : {M : Type 1} → statement M
 value-at-spec =
@@ -86,7 +92,6 @@ value-at-spec =
     mul-size
     add-size
     with-sign-requires
-    add-t17
-    cast-t18
-    add-t19
+    packed-length-requires
+    add-t18
     returns)

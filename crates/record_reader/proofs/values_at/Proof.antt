@@ -1,6 +1,7 @@
 -- `record_reader::values_at` meets its contract: each turn leaves the values that follow to be tested. Assumes nothing.
 use borrow.Author.Needs.{needs}
 use native.Mathlib.Omega.{arith}
+use mathlib.Core.Path.{_∙_}
 use mathlib.Core.Bool.{false≢true}
 use Prim.Native.Nat.{_+_, _-_, _*_, _≤_, _<_}
 use Rattle.bits.specs.Bits.{bitAt}
@@ -40,7 +41,7 @@ returns : tie.Need-returns Inv-loop μ-loop
 returns c =
     let v = c .before .before in
     let l : turn v .loop .i < start (turn v) .args .count = omega arith in
-    (pass-fails _ _ _ _ l (fails (v .value-at .ensures .1) (c .if1 .taken)) (turn v .loop .inv .2), λ h. absurd (false≢true h))
+    (pass-fails _ _ _ _ l (fails (v .value-at .ensures .0 .1) (c .if1 .taken)) (turn v .loop .inv .2), λ h. absurd (false≢true h))
 
 add-i : tie.Need-add-i Inv-loop μ-loop
 add-i c = search needs
@@ -55,10 +56,11 @@ loop-again c =
     let a = start t .args in
     let l : t .loop .i < a .count = omega arith in
     let e = v .value-at .ensures in
-    rw (e .2) (
+    let right = holds (e .0 .1) (c .if1 .left) in
+    rw (e .1 (e .0 .1 ∙ right)) (
       omega (arith, next-most (bitAt (a .bytes .now)) (t .loop .place), t .loop .inv .0),
       walk-step _ _ _ l (t .loop .inv .1),
-      pass-step _ _ _ _ l (holds (e .1) (c .if1 .left)) (t .loop .inv .2),
+      pass-step _ _ _ _ l right (t .loop .inv .2),
     )
 
 returns-2 : tie.Need-returns-2 Inv-loop μ-loop

@@ -15,14 +15,16 @@ use Rattle.bits.proofs.Numbers.{bit-below}
 use Rattle.bits.proofs.Putting.{length-put}
 use Rattle.signed.proofs.Signs.{read-back}
 use Rattle.record.specs.Record.{negative}
+use Rattle.record.specs.Lengths.{packedLength}
 use Rattle.record.proofs.FieldSets.{length-value}
+use Rattle.record.proofs.Lengths.{packed-value, packed-most}
 use Rattle.record_writer.proofs.WriteLaws.{below-zero, value-put}
 use Rattle.record_writer.proofs.put_value.Statement.{statement}
 use Rattle.record_writer.proofs.put_value.Tie as tie
 
 -- ** The states: behind the last call, behind the first eight bits, behind the size; and the start
 
-abbrev one-put : tie.After-value-length → tie.After-put-one
+abbrev one-put : tie.After-packed-length → tie.After-put-one
 one-put c = c .before .before .before
 
 abbrev eight-put : tie.After-put-one → tie.After-put-eight
@@ -90,13 +92,11 @@ put-one-requires c κs =
       omega (arith, size (sized e), s .pre .2, length-value (s .args .value), long e),
     )
 
-value-length-requires : tie.Need-value-length-requires
-value-length-requires c κs =
-    let z = sized (eight-put (c .before .before)) in
-    omega (arith, size z, start z .pre .0)
+packed-length-requires : tie.Need-packed-length-requires
+packed-length-requires c κs = search needs
 
 add-result : tie.Need-add-result
-add-result c = search needs
+add-result c = omega (arith, packed-most _ (c .packed-length .ensures))
 
 same-length : tie.Need-same-length
 same-length c = search needs
@@ -105,7 +105,7 @@ returns : tie.Need-returns
 returns c =
     let e = eight-put (one-put c) in
     let a = start (sized e) .args in (
-      omega (arith, size (sized e), c .value-length .ensures, length-value (a .value)),
+      ap (a .at +_) (c .packed-length .ensures ∙ ap packedLength (size (sized e)) ∙ packed-value (a .value) (start (sized e) .pre .0)),
       value-put (a .page .now) (a .at) (a .value) (first e)
           (one-put c .put-one .ensures ∙ ap (λ (x : ℕ). putBits (e .put-eight .last .0) (a .at + 8) (replicate (x / 128) false ++ (true ∷ []))) (size (sized e))),
     )
@@ -122,7 +122,7 @@ put-value-spec =
     add-put-one
     cast-put-one
     put-one-requires
-    value-length-requires
+    packed-length-requires
     add-result
     same-length
     returns)

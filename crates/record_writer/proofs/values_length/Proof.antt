@@ -8,7 +8,8 @@ use lib.ListN.{length, getD}
 use Rattle.bits.specs.Items.{joined}
 use Rattle.bits.proofs.Putting.{formsFrom, forms-length, no-forms-left}
 use Rattle.record.specs.Record.{valueLimit, valueBits}
-use Rattle.record.proofs.FieldSets.{length-value}
+use Rattle.record.specs.Lengths.{packedLength}
+use Rattle.record.proofs.Lengths.{packed-value, packed-most}
 use Rattle.record_writer.proofs.WriteLaws.{value-small, value-read}
 use Rattle.record_writer.proofs.values_length.Statement.{statement}
 use Rattle.record_writer.proofs.values_length.Tie as tie
@@ -21,7 +22,7 @@ abbrev μ-loop : tie.MeasureT-loop
 
 -- ** The states: behind the size, the head of the loop, and the start
 
-abbrev sized : tie.After-value-length Inv-loop μ-loop → tie.After-size-of Inv-loop μ-loop
+abbrev sized : tie.After-packed-length Inv-loop μ-loop → tie.After-size-of Inv-loop μ-loop
 sized c = c .before
 
 abbrev turn : tie.After-size-of Inv-loop μ-loop → tie.At-loop Inv-loop μ-loop
@@ -42,6 +43,12 @@ module _ (c : tie.At-loop Inv-loop μ-loop) where
 size : (c : tie.After-size-of Inv-loop μ-loop) → c .size-of .result ≡ natAbs (value (turn c))
 size c = let s = start (turn c) in c .size-of .ensures ∙ ap natAbs (value-read (s .args .values .now) (s .pre .0) (turn c .loop .i))
 
+-- its packed length is that of its form
+length-is : (c : tie.After-packed-length Inv-loop μ-loop) → c .packed-length .result ≡ length (valueBits (value (turn (sized c))))
+length-is c =
+    let t = turn (sized c) in
+    c .packed-length .ensures ∙ ap packedLength (size (sized c)) ∙ packed-value (value t) (small t)
+
 -- ** The needs
 
 loop-holds : tie.Need-loop-holds Inv-loop μ-loop
@@ -58,11 +65,11 @@ size-of-requires c κs =
     let t = c .before .before in
     rw (value-read (start t .args .values .now) (start t .pre .0) (t .loop .i)) (small t)
 
-value-length-requires : tie.Need-value-length-requires Inv-loop μ-loop
-value-length-requires c κs = omega (arith, size c, small (turn c))
+packed-length-requires : tie.Need-packed-length-requires Inv-loop μ-loop
+packed-length-requires c κs = search needs
 
 add-sum : tie.Need-add-sum Inv-loop μ-loop
-add-sum c = omega (arith, c .value-length .ensures, size (sized c), small (turn (sized c)))
+add-sum c = omega (arith, packed-most _ (c .packed-length .ensures))
 
 add-i : tie.Need-add-i Inv-loop μ-loop
 add-i c = omega arith
@@ -75,8 +82,8 @@ loop-again c =
     let t = turn (sized c) in
     let values = start t .args .values .now in
     let l : t .loop .i < length values = omega arith in (
-      omega (arith, c .value-length .ensures, size (sized c), small t),
-      omega (arith, c .value-length .ensures, size (sized c), length-value (value t), forms-length valueBits values (pos 0) (t .loop .i) l, t .loop .inv .1),
+      omega (arith, packed-most _ (c .packed-length .ensures)),
+      omega (arith, length-is c, forms-length valueBits values (pos 0) (t .loop .i) l, t .loop .inv .1),
     )
 
 returns : tie.Need-returns Inv-loop μ-loop
@@ -94,7 +101,7 @@ values-length-spec =
     mul-size-of
     shared-slice-copy-out-size-of
     size-of-requires
-    value-length-requires
+    packed-length-requires
     add-sum
     add-i
     loop-less

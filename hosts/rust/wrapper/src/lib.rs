@@ -80,7 +80,7 @@ pub use fault::Fault;
 pub use key_check::{check_key, KeyCheck, KEY_SUM_LIMIT};
 pub use owned::{CallError, Noise, OwnedDraw, OwnedResponse, Spent};
 pub use read_list::{filled, Entry, Kind};
-pub use record::{record_length_limit, Record, VALUE_LIMIT};
+pub use record::{packed_length, record_length_limit, Record, VALUE_LIMIT};
 pub use refusal::Refusal;
 pub use respond::{challenge_limit, respond_list_length, Outcome, Responded, COEFFICIENT_LIMIT, RESPOND_WORDS};
 pub use secret::Secret;

@@ -24,6 +24,26 @@ pub const fn record_length_limit(n: usize, positions: usize) -> usize {
     }
 }
 
+/// The packed length of a value of z1 or z2, by its size, which is the value without its sign: how many bits it takes in a record.
+/// It is read from the table by which records are written and read, and 9 to 34. A size above [`VALUE_LIMIT`] has none.
+///
+/// ```
+/// use bliss_box::packed_length;
+///
+/// assert_eq!([0, 127, 128, 3_263, 3_264].map(packed_length), [Some(9), Some(9), Some(10), Some(34), None]);
+/// assert_eq!(packed_length((-3_263_i32).unsigned_abs()), Some(34));
+/// ```
+///
+/// The time that it takes depends on the size: it is for values that are published.
+#[must_use]
+pub fn packed_length(size: u32) -> Option<usize> {
+    // SAFETY: the call takes any number and no pointer.
+    match unsafe { raw::bliss_packed_length(size) } {
+        0 => None,
+        length => Some(length),
+    }
+}
+
 /// A signature's fields, each there or not, as a record holds them. They are public.
 ///
 /// A record is a sequence of bytes: a map of the fields that it has, the degree, and these fields, packed. Each `Record` that can

@@ -47,7 +47,7 @@ const LEAST_PAIRS: u64 = 32_000;
 
 type Part = (&'static str, fn(&Comparison));
 
-const PARTS: [Part; 27] = [
+const PARTS: [Part; 28] = [
     ("guards", lent::guards_notice_every_change),
     ("openings", openings_are_the_models),
     ("filled parts", filled_parts_are_the_models),
@@ -71,6 +71,7 @@ const PARTS: [Part; 27] = [
     ("records by hand", records::records_by_hand_are_the_models),
     ("records changed in one place", records::changed_records_are_the_models),
     ("records of random bytes", records::random_bytes_are_the_models),
+    ("packed lengths", records::packed_lengths_are_the_models),
     ("lists of calls", lists::lists_of_calls_are_the_models),
     ("demand 3, histories", demand3::read_lists_are_equal_exactly_when_histories_are),
     ("demand 3, agreement", demand3::what_is_not_listed_decides_nothing),

@@ -562,5 +562,18 @@ wrong 'the rest of an output is changed' 'output[..field.len()].copy_from_slice(
 wrong 'an absent z1 has a length' 'positions, z1: n1,' 'positions, z1: fields.n,'
 wrong 'refused, the degree is told' '..Contents::default() }' 'degree: 4, ..Contents::default() }'
 
+# Packed lengths
+words=packed
+wrong 'a packed length one longer' '9 + size as usize' '10 + size as usize'
+wrong 'a packed length for 64 sizes' 'size as usize / 128
+}' 'size as usize / 64
+}'
+wrong 'size/128 rounded up' 'size as usize / 128
+}' '(size as usize).div_ceil(128)
+}'
+wrong 'a packed length of 3,264' 'size > VALUE_LIMIT as u32' 'size > VALUE_LIMIT as u32 + 1'
+wrong 'no packed length of 3,263' 'size > VALUE_LIMIT as u32' 'size >= VALUE_LIMIT as u32'
+wrong 'a packed length of every size' 'size > VALUE_LIMIT as u32' 'false'
+
 echo "$count wrong models, $unnoticed not noticed"
 [ "$unnoticed" -eq 0 ]

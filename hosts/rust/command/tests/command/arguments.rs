@@ -19,7 +19,7 @@ fn help_is_printed() {
     assert_eq!([&short, &short], [&long, &by_command]);
     let commands = commands().join(", ");
     assert!(
-        commands.starts_with("draw, respond, check-key, record, record write, record read, exp, list, demo, "),
+        commands.starts_with("draw, respond, check-key, record, record write, record read, record lengths, exp, list, demo, "),
         "{commands}"
     );
     assert!(commands.ends_with(", completions, manual"), "{commands}");
@@ -124,7 +124,7 @@ fn wrong(arguments: &[&str], start: &str, end: &str) {
 fn wrong_command_lines_are_explained() {
     wrong(&[], "'bliss-box' requires a subcommand", "[subcommands: draw, respond, ");
     wrong(&["sign"], "The subcommand 'sign'", "wasn't recognized");
-    wrong(&["record"], "'bliss-box record' requires a subcommand", "[subcommands: write, read]");
+    wrong(&["record"], "'bliss-box record' requires a subcommand", "[subcommands: write, read, lengths]");
     wrong(&["record", "copy"], "The subcommand 'copy'", "wasn't recognized");
     for (arguments, unexpected) in [
         (&["--degree", "4"][..], "--degree"),
@@ -141,6 +141,7 @@ fn wrong_command_lines_are_explained() {
         (&["record", "--degree", "4"], "--degree"),
         (&["record", "write", "sig.bin"], "sig.bin"),
         (&["record", "read", "sig.bin", "--degree", "4"], "--degree"),
+        (&["record", "lengths", "128"], "128"),
     ] {
         wrong(arguments, &format!("Found argument '{unexpected}'"), "which wasn't expected");
     }

@@ -143,6 +143,13 @@ fn what_is_written_is_read_back() {
     }
 }
 
+/// The column of the checklist: 26 lengths, for 128 sizes each but the last.
+#[test]
+fn the_packed_lengths_are_printed() {
+    let lines = (0..26).map(|k| format!("sizes {} to {}: {} bits\n", 128 * k, (128 * k + 127).min(3263), 9 + k));
+    assert_eq!(printed(&["record", "lengths"]), lines.collect::<String>());
+}
+
 #[test]
 fn standard_input_and_output_are_files_too() {
     let fields = Fields::new("standard-record");

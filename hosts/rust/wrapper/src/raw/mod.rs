@@ -25,6 +25,6 @@ pub use exponential::bliss_exponential;
 pub use filled::bliss_filled;
 pub use key_check::{bliss_check_key, KeyCheck};
 pub use open::{bliss_open, Opened, Session};
-pub use record::{bliss_read_record, bliss_write_record, Contents, Fields, Written};
+pub use record::{bliss_packed_length, bliss_read_record, bliss_write_record, Contents, Fields, Written};
 pub use respond::{bliss_respond, RespondAnswer, Responded};
 pub use version::{bliss_version, VERSION};

@@ -82,4 +82,11 @@ extern "C" {
         z2: *mut i32,
         z2_length: usize,
     ) -> Contents;
+
+    /// The packed length of a value of this size in a record, or 0 where no value of it can be stored.
+    ///
+    /// # Safety
+    ///
+    /// It takes any number.
+    pub fn bliss_packed_length(size: u32) -> usize;
 }

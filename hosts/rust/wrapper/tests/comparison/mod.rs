@@ -19,6 +19,7 @@ pub struct Comparison {
     key_checks: AtomicU64,
     records_written: AtomicU64,
     records_read: AtomicU64,
+    packed_lengths: AtomicU64,
     lists: AtomicU64,
     pairs: AtomicU64,
 }
@@ -127,6 +128,13 @@ impl Comparison {
         expected
     }
 
+    pub fn packed_length(&self, size: u32) {
+        // SAFETY: the call takes any number and no pointer.
+        let given = unsafe { raw::bliss_packed_length(size) };
+        same(&format!("size {size}"), "the packed length", &[given], &[record::packed_length(size)]);
+        self.packed_lengths.fetch_add(1, Relaxed);
+    }
+
     /// Counts a list of calls, each of which was compared.
     pub fn count_list(&self) {
         self.lists.fetch_add(1, Relaxed);
@@ -166,7 +174,7 @@ impl Display for Comparison {
         write!(f, ", {} openings, {} filled parts", count(&self.openings), count(&self.filled))?;
         write!(f, ", {} exponentials, {} key checks", count(&self.exponentials), count(&self.key_checks))?;
         write!(f, ", {} records written and {} read", count(&self.records_written), count(&self.records_read))?;
-        write!(f, " with the model")?;
+        write!(f, ", {} packed lengths with the model", count(&self.packed_lengths))?;
         write!(f, ", and {} pairs of lists of calls with each other", count(&self.pairs))
     }
 }

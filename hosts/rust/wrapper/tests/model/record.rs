@@ -1,4 +1,4 @@
-//! The record of a signature, by document 02's S-3. Its bits are a text of '0' and '1': a record that is written is put together
+//! The record of a signature, by document 02's S-3 and S-4. Its bits are a text of '0' and '1': a record that is written is put together
 //! of printed numbers, and one that is read is cut from its front.
 
 use super::degree_is_served;
@@ -21,6 +21,14 @@ pub fn value_text(value: i32) -> String {
     let size = value.unsigned_abs();
     let zeros = "0".repeat(size as usize / 128);
     format!("{sign}{:07b}{zeros}1", size % 128)
+}
+
+/// S-4: 9 plus size/128; 0, which is no length, above the largest size.
+pub fn packed_length(size: u32) -> usize {
+    if size > VALUE_LIMIT as u32 {
+        return 0;
+    }
+    9 + size as usize / 128
 }
 
 /// A count byte and positions of two bytes, high byte first.

@@ -10,7 +10,7 @@ use crate::calls::record::{any_write, field_set, field_set_of, read_any, read_of
 use crate::calls::{self, DEGREES};
 use crate::comparison::Comparison;
 use crate::coverage::{at_degree, every_refusal, of_map, of_pad, Coverage, READ_REFUSALS, WRITE_REFUSALS};
-use crate::model::record::{Contents, FieldSet, Reading, Write, VALUE_LIMIT};
+use crate::model::record::{packed_length, value_text, Contents, FieldSet, Reading, Write, VALUE_LIMIT};
 use crate::random::Random;
 use crate::run::{self, DEFAULT_SEED};
 
@@ -109,6 +109,17 @@ pub fn every_value_is_the_models(comparison: &Comparison) {
         assert_eq!(written.refusal, if is_stored { 0 } else { 15 }, "{origin}");
         let reading = comparison.read_record(&origin, &read_any(fields.record()));
         assert_eq!(fields_of(&reading), is_stored.then_some(fields), "{origin}: what is read is not what was written");
+    }
+}
+
+/// Each size that has a packed length, and others. By the model, the form of each value has just so many bits.
+pub fn packed_lengths_are_the_models(comparison: &Comparison) {
+    let by_powers = (0..32).flat_map(|shift| [1 << shift, (1 << shift) + 127, !0 << shift]);
+    for size in (0..10_000).chain(by_powers) {
+        comparison.packed_length(size);
+    }
+    for value in -VALUE_LIMIT..=VALUE_LIMIT {
+        assert_eq!(value_text(value).len(), packed_length(value.unsigned_abs()), "value {value}");
     }
 }
 

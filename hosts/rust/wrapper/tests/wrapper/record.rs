@@ -1,6 +1,6 @@
 //! Records.
 
-use bliss_box::{challenge_limit, raw, record_length_limit, Record, Refusal, VALUE_LIMIT};
+use bliss_box::{challenge_limit, packed_length, raw, record_length_limit, Record, Refusal, VALUE_LIMIT};
 
 use crate::N;
 
@@ -66,6 +66,21 @@ fn the_longest_record_is_as_long_as_its_limit() {
         assert_eq!(is_stored(&longest(n)).len(), record_length_limit(n, challenge_limit(n)), "degree {n}");
     }
     assert_eq!([(4, 2), (512, 23), (1024, 64)].map(|(n, positions)| record_length_limit(n, positions)), [42, 4402, 8836]);
+}
+
+/// Eight values of a size take as many bytes as one takes bits, behind the three of map and degree.
+#[test]
+fn a_value_takes_its_packed_length() {
+    for value in -VALUE_LIMIT..=VALUE_LIMIT {
+        let size = value.unsigned_abs();
+        let length = packed_length(size).unwrap();
+        assert_eq!(length, 9 + size as usize / 128, "size {size}");
+        let record = Record { degree: 8, z2: Some(vec![value; 8]), ..Record::default() };
+        assert_eq!(is_stored(&record).len(), 3 + length, "value {value}");
+    }
+    for size in [3_264, 3_327, 3_328, 1 << 16, (1 << 16) + 1, 1 << 31, u32::MAX] {
+        assert_eq!(packed_length(size), None, "size {size}");
+    }
 }
 
 #[test]

@@ -1,5 +1,6 @@
 //! `bliss-box record`: signatures in the bytes in which they are stored.
 
+mod lengths;
 mod read;
 mod write;
 
@@ -24,6 +25,7 @@ pub struct Record {
 enum Command {
     Write(write::Write),
     Read(read::Read),
+    Lengths(lengths::Lengths),
 }
 
 impl Record {
@@ -31,6 +33,7 @@ impl Record {
         match &self.command {
             Command::Write(write) => write.run(),
             Command::Read(read) => read.run(),
+            Command::Lengths(lengths) => lengths.run(),
         }
     }
 }
