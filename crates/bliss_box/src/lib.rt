@@ -133,5 +133,5 @@ pub extern "C" fn bliss_read_record(
 pub extern "C" fn bliss_packed_length(size: u32) -> usize
     ensures { λ r. ⌜ r ≡ packedLength size ⌝ }
 {
-    record::packed_length(size)
+    record::packed_length(size) as usize
 }

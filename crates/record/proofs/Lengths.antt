@@ -1,10 +1,10 @@
 -- The table of packed lengths has the lengths of the forms. Assumes nothing.
 use mathlib.Core.Path.{_≡_, refl, sym, _∙_}
-use mathlib.Core.Bool.{Bool, true, false}
+use mathlib.Core.Bool.{Bool}
 use Prim.Native.Nat.{ℕ, _+_, _/_, _≤_, _<_}
 use native.Mathlib.Omega.{arith}
-use borrow.Author.Tests.{eqb-true, leb-true, leb-false, le-leb, lt-leb}
-use lib.Dec.{leb, eqb}
+use borrow.Author.Tests.{eqb-true, le-leb, lt-leb}
+use lib.Dec.{eqb}
 use lib.IntN.{ℤ, pos, natAbs}
 use lib.ListN.{length, getD}
 use Rattle.checks.specs.Checks.{allBelow}
@@ -41,11 +41,3 @@ packed-value v h = packed-entry h ∙ entries-are-lengths v h
 -- of a size that is not too large
 pub packed-size : {size : ℕ} → size ≤ valueLimit → packedLength size ≡ 9 + size / 128
 packed-size {size = size} h = packed-value (pos size) h ∙ length-value (pos size)
-
--- of any size
-pub packed-most : (size : ℕ) {packed : ℕ} → packed ≡ packedLength size → packed ≤ 34
-packed-most size {packed = packed} p = by (leb size valueLimit) refl
-  where
-    by : (b : Bool) → leb size valueLimit ≡ b → packed ≤ 34
-    by true e = let h = leb-true size valueLimit e in omega (arith, p, packed-size h, h)
-    by false e = omega (arith, p, packed-none (leb-false size valueLimit e))

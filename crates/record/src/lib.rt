@@ -6,7 +6,7 @@ ghost use Rattle.record.specs.Lengths.{packedLength};
 pub const VALUE_LIMIT: u32 = 3263;
 
 // The packed lengths of values, by size/128: the column of the printed checklist.
-const PACKED_LENGTHS: [usize; 26] = [
+const PACKED_LENGTHS: [u8; 26] = [
     9,
     10,
     11,
@@ -36,7 +36,7 @@ const PACKED_LENGTHS: [usize; 26] = [
 ];
 
 // The packed length of a value of this size, in bits; or 0, which is no length, where it is too large.
-pub fn packed_length(size: u32) -> usize
+pub fn packed_length(size: u32) -> u8
     ensures { λ r. ⌜ r ≡ packedLength size ⌝ }
 {
     if VALUE_LIMIT < size {

@@ -42,7 +42,7 @@ fn value_at(bytes: &[u8], at: usize) -> Value
     Value {
         value: with_sign(minus, size),
         right: (size <= record::VALUE_LIMIT) & !(minus & (size == 0)),
-        next: at + record::packed_length(size),
+        next: at + record::packed_length(size) as usize,
     }
 }
 

@@ -44,7 +44,7 @@ fn values_length(values: &[i32]) -> usize
     let mut sum: usize = 0;
     let mut i: usize = 0;
     while i < values.len() {
-        sum += record::packed_length(size_of(values[i]));
+        sum += record::packed_length(size_of(values[i])) as usize;
         i += 1;
     }
     sum
@@ -60,7 +60,7 @@ fn put_value(page: &mut [u8], at: usize, value: i32) -> usize
     let minus = (value < 0) as u32;
     bits::put_eight(page, at, 128 * minus + size % 128);
     bits::put_one(page, at + 8, (size / 128) as usize);
-    at + record::packed_length(size)
+    at + record::packed_length(size) as usize
 }
 
 // Puts values into bytes from a place on. Gives the place behind them.

@@ -11,7 +11,6 @@ use Rattle.bits.proofs.Streams.{zeros-most}
 use Rattle.signed.proofs.Signs.{read-back}
 use Rattle.record.specs.Lengths.{packedLength}
 use Rattle.record.specs.Reading.{zerosAt, sizeAt, valueAt, isValue}
-use Rattle.record.proofs.Lengths.{packed-most}
 use Rattle.record.proofs.Forms.{packed-next}
 use Rattle.record_reader.proofs.LongestForm.{Parts, parts}
 use Rattle.record_reader.proofs.value_at.Statement.{statement}
@@ -67,8 +66,11 @@ with-sign-requires c κs = omega (arith, zeros-is c, few c)
 packed-length-requires : tie.Need-packed-length-requires
 packed-length-requires c κs = search needs
 
-add-t18 : tie.Need-add-t18
-add-t18 c = omega (arith, packed-most _ (c .packed-length .ensures))
+cast-t18 : tie.Need-cast-t18
+cast-t18 c = search needs
+
+add-t19 : tie.Need-add-t19
+add-t19 c = search needs
 
 returns : tie.Need-returns
 unfolding valueAt isValue
@@ -93,5 +95,6 @@ value-at-spec =
     add-size
     with-sign-requires
     packed-length-requires
-    add-t18
+    cast-t18
+    add-t19
     returns)

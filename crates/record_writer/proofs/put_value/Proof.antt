@@ -17,7 +17,7 @@ use Rattle.signed.proofs.Signs.{read-back}
 use Rattle.record.specs.Record.{negative}
 use Rattle.record.specs.Lengths.{packedLength}
 use Rattle.record.proofs.FieldSets.{length-value}
-use Rattle.record.proofs.Lengths.{packed-value, packed-most}
+use Rattle.record.proofs.Lengths.{packed-value}
 use Rattle.record_writer.proofs.WriteLaws.{below-zero, value-put}
 use Rattle.record_writer.proofs.put_value.Statement.{statement}
 use Rattle.record_writer.proofs.put_value.Tie as tie
@@ -95,8 +95,11 @@ put-one-requires c κs =
 packed-length-requires : tie.Need-packed-length-requires
 packed-length-requires c κs = search needs
 
+cast-result : tie.Need-cast-result
+cast-result c = search needs
+
 add-result : tie.Need-add-result
-add-result c = omega (arith, packed-most _ (c .packed-length .ensures))
+add-result c = search needs
 
 same-length : tie.Need-same-length
 same-length c = search needs
@@ -123,6 +126,7 @@ put-value-spec =
     cast-put-one
     put-one-requires
     packed-length-requires
+    cast-result
     add-result
     same-length
     returns)

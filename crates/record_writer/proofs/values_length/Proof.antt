@@ -9,13 +9,13 @@ use Rattle.bits.specs.Items.{joined}
 use Rattle.bits.proofs.Putting.{formsFrom, forms-length, no-forms-left}
 use Rattle.record.specs.Record.{valueLimit, valueBits}
 use Rattle.record.specs.Lengths.{packedLength}
-use Rattle.record.proofs.Lengths.{packed-value, packed-most}
+use Rattle.record.proofs.Lengths.{packed-value}
 use Rattle.record_writer.proofs.WriteLaws.{value-small, value-read}
 use Rattle.record_writer.proofs.values_length.Statement.{statement}
 use Rattle.record_writer.proofs.values_length.Tie as tie
 
 abbrev Inv-loop : tie.InvT-loop
-Inv-loop values sum₀ i₀ sum i = (sum ≤ 34 * i) × (sum + length (formsFrom valueBits values i) ≡ length (joined valueBits values))
+Inv-loop values sum₀ i₀ sum i = (sum ≤ 255 * i) × (sum + length (formsFrom valueBits values i) ≡ length (joined valueBits values))
 
 abbrev μ-loop : tie.MeasureT-loop
 μ-loop values sum₀ i₀ sum i = length values - i
@@ -68,8 +68,11 @@ size-of-requires c κs =
 packed-length-requires : tie.Need-packed-length-requires Inv-loop μ-loop
 packed-length-requires c κs = search needs
 
+cast-sum : tie.Need-cast-sum Inv-loop μ-loop
+cast-sum c = search needs
+
 add-sum : tie.Need-add-sum Inv-loop μ-loop
-add-sum c = omega (arith, packed-most _ (c .packed-length .ensures))
+add-sum c = search needs
 
 add-i : tie.Need-add-i Inv-loop μ-loop
 add-i c = omega arith
@@ -82,7 +85,7 @@ loop-again c =
     let t = turn (sized c) in
     let values = start t .args .values .now in
     let l : t .loop .i < length values = omega arith in (
-      omega (arith, packed-most _ (c .packed-length .ensures)),
+      omega arith,
       omega (arith, length-is c, forms-length valueBits values (pos 0) (t .loop .i) l, t .loop .inv .1),
     )
 
@@ -102,6 +105,7 @@ values-length-spec =
     shared-slice-copy-out-size-of
     size-of-requires
     packed-length-requires
+    cast-sum
     add-sum
     add-i
     loop-less

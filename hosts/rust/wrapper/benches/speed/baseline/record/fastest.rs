@@ -19,7 +19,7 @@ const LONGEST: u32 = 34;
 #[inline(never)]
 pub fn write(fields: Fields, out: &mut [u8]) -> Result<usize, Refusal> {
     check_record(&fields)?;
-    let length = fields.length();
+    let length = fields.length(|size| 9 + size / 128);
     let page = out.get_mut(..length).ok_or(Refusal::Output)?;
     let next = fields.put_header(page);
     let mut waiting = Waiting { page, next, word: 0, bits: 0 };

@@ -25,9 +25,9 @@ impl Fields<'_> {
         [self.z1, self.z2].into_iter().flatten()
     }
 
-    /// The bytes of the record.
-    fn length(&self) -> usize {
-        let values: u32 = self.halves().flatten().map(|value| 9 + value.unsigned_abs() / 128).sum();
+    /// The bytes of the record, by the packed length of a size.
+    fn length(&self, packed_length: impl Fn(u32) -> u32) -> usize {
+        let values: u32 = self.halves().flatten().map(|value| packed_length(value.unsigned_abs())).sum();
         HEADER + self.challenge.map_or(0, |challenge| 1 + 2 * challenge.len()) + values.div_ceil(8) as usize
     }
 

@@ -1,16 +1,29 @@
-//! The box's way: bits are put over zeros at their places, and all of a record is looked through before it is read.
+//! The box's way: bits are put over zeros at their places, all of a record is looked through before it is read, and packed lengths are
+//! those of a table.
 
 use bliss_box::raw::Contents;
-use bliss_box::Refusal;
+use bliss_box::{Refusal, VALUE_LIMIT};
 
 use super::{demand_room, ends_at, is_value, sign_and_low, window, Fields, Header};
 use crate::baseline::refusals::check_record;
+
+/// By size/128.
+const PACKED_LENGTHS: [u8; 26] =
+    [9, 10, 11, 12, 13, 14, 15, 16, 17, 18, 19, 20, 21, 22, 23, 24, 25, 26, 27, 28, 29, 30, 31, 32, 33, 34];
+
+/// The packed length of a value of this size; 0 where it is too large.
+fn packed_length(size: u32) -> u32 {
+    if size > VALUE_LIMIT as u32 {
+        return 0;
+    }
+    PACKED_LENGTHS[size as usize / 128].into()
+}
 
 /// Writes a record to the start of an output. Gives its length.
 #[inline(never)]
 pub fn write(fields: Fields, out: &mut [u8]) -> Result<usize, Refusal> {
     check_record(&fields)?;
-    let length = fields.length();
+    let length = fields.length(packed_length);
     let page = out.get_mut(..length).ok_or(Refusal::Output)?;
     page.fill(0);
     let mut place = 8 * fields.put_header(page);
@@ -28,9 +41,10 @@ fn put_value(page: &mut [u8], place: usize, value: i32) -> usize {
     let (k, second) = (place / 8, place % 8);
     page[k] |= (eight >> second) as u8;
     page[k + 1] |= (eight << (8 - second)) as u8;
-    let one = place + 8 + (value.unsigned_abs() / 128) as usize;
+    let size = value.unsigned_abs();
+    let one = place + 8 + (size / 128) as usize;
     page[one / 8] |= 128 >> (one % 8);
-    one + 1
+    place + packed_length(size) as usize
 }
 
 /// Reads a record: each of its fields goes to the start of its output.
@@ -56,7 +70,7 @@ fn value_at(bytes: &[u8], place: usize) -> (i32, bool, u32) {
     let minus = form >> 33 == 1;
     let zeros = (form % (1 << 26)).leading_zeros() - 38;
     let size = (form >> 26 & 127) as i32 + 128 * zeros as i32;
-    (if minus { -size } else { size }, is_value(minus, size), 9 + zeros)
+    (if minus { -size } else { size }, is_value(minus, size), packed_length(size as u32))
 }
 
 /// The place behind so many values, if each may stand in a record.
