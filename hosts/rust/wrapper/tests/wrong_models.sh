@@ -564,16 +564,14 @@ wrong 'refused, the degree is told' '..Contents::default() }' 'degree: 4, ..Cont
 
 # Packed lengths
 words=packed
-wrong 'a packed length one longer' '9 + size as usize' '10 + size as usize'
-wrong 'a packed length for 64 sizes' 'size as usize / 128
-}' 'size as usize / 64
-}'
-wrong 'size/128 rounded up' 'size as usize / 128
-}' '(size as usize).div_ceil(128)
-}'
-wrong 'a packed length of 3,264' 'size > VALUE_LIMIT as u32' 'size > VALUE_LIMIT as u32 + 1'
-wrong 'no packed length of 3,263' 'size > VALUE_LIMIT as u32' 'size >= VALUE_LIMIT as u32'
-wrong 'a packed length of every size' 'size > VALUE_LIMIT as u32' 'false'
+length='9 + size as usize / 128'
+wrong 'a packed length one longer' "$length" '10 + size as usize / 128'
+wrong 'a packed length for 64 sizes' "$length" '9 + size as usize / 64'
+wrong 'size/128 rounded up' "$length" '9 + size.div_ceil(128) as usize'
+wrong 'no more lengths than 25' "$length" '(9 + size as usize / 128).min(33)'
+wrong 'a packed length of 3,264' '0..=3_263' '0..=3_264'
+wrong 'no packed length of 3,263' '0..=3_263' '0..3_263'
+wrong 'a packed length of every size' '_ => 0' '_ => 34'
 
 echo "$count wrong models, $unnoticed not noticed"
 [ "$unnoticed" -eq 0 ]

@@ -25,10 +25,10 @@ pub fn value_text(value: i32) -> String {
 
 /// S-4: 9 plus size/128; 0, which is no length, above the largest size.
 pub fn packed_length(size: u32) -> usize {
-    if size > VALUE_LIMIT as u32 {
-        return 0;
+    match size {
+        0..=3_263 => 9 + size as usize / 128,
+        _ => 0,
     }
-    9 + size as usize / 128
 }
 
 /// A count byte and positions of two bytes, high byte first.
