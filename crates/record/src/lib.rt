@@ -5,7 +5,8 @@ ghost use Rattle.record.specs.Lengths.{packedLength};
 // The largest size of a value.
 pub const VALUE_LIMIT: u32 = 3263;
 
-// The packed lengths of values, by size/128: the column of the printed checklist.
+// The packed lengths of values, by size/128: the column of the printed checklist. They are bytes, since the compiler writes them to the
+// stack where one is read.
 const PACKED_LENGTHS: [u8; 26] = [
     9,
     10,

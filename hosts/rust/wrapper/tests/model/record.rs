@@ -1,5 +1,5 @@
-//! The record of a signature, by document 02's S-3 and S-4. Its bits are a text of '0' and '1': a record that is written is put together
-//! of printed numbers, and one that is read is cut from its front.
+//! The record of a signature, by document 02's S-3 and S-4. Its bits are a text of '0' and '1': a record that is written is put
+//! together of printed numbers, and one that is read is cut from its front.
 
 use super::degree_is_served;
 
