@@ -11,7 +11,8 @@ use Rattle.record.specs.Record.{valueLimit, valueBits}
 -- the column of the printed checklist: its first entry is for sizes 0 to 127, the second for 128 to 255, and the last for 3,200 to 3,263
 abbrev pub packedLengths : List ℕ
 packedLengths =
-    9 ∷ 10 ∷ 11 ∷ 12 ∷ 13 ∷ 14 ∷ 15 ∷ 16 ∷ 17 ∷ 18 ∷ 19 ∷ 20 ∷ 21 ∷ 22 ∷ 23 ∷ 24 ∷ 25 ∷ 26 ∷ 27 ∷ 28 ∷ 29 ∷ 30 ∷ 31 ∷ 32 ∷ 33 ∷ 34 ∷ []
+    9 ∷ 10 ∷ 11 ∷ 12 ∷ 13 ∷ 14 ∷ 15 ∷ 16 ∷ 17 ∷ 18 ∷ 19 ∷ 20 ∷ 21
+    ∷ 22 ∷ 23 ∷ 24 ∷ 25 ∷ 26 ∷ 27 ∷ 28 ∷ 29 ∷ 30 ∷ 31 ∷ 32 ∷ 33 ∷ 34 ∷ []
 
 -- the entry for a size
 abbrev pub entryFor : (size : ℕ) → ℕ

@@ -24,8 +24,8 @@ pub const fn record_length_limit(n: usize, positions: usize) -> usize {
     }
 }
 
-/// The packed length of a value of z1 or z2, by its size, which is the value without its sign: how many bits it takes in a record.
-/// It is read from the table by which records are written and read, and 9 to 34. A size above [`VALUE_LIMIT`] has none.
+/// The packed length of a value of z1 or z2, by its size, which is the value without its sign: how many bits it takes in a record,
+/// 9 to 34. It is read from the table by which records are written and read. A size above [`VALUE_LIMIT`] has none.
 ///
 /// ```
 /// use bliss_box::packed_length;

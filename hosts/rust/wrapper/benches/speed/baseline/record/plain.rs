@@ -7,7 +7,7 @@ use bliss_box::{Refusal, VALUE_LIMIT};
 use super::{demand_room, ends_at, is_value, sign_and_low, window, Fields, Header};
 use crate::baseline::refusals::check_record;
 
-/// By size/128.
+/// The packed lengths of values, by size/128.
 const PACKED_LENGTHS: [u8; 26] =
     [9, 10, 11, 12, 13, 14, 15, 16, 17, 18, 19, 20, 21, 22, 23, 24, 25, 26, 27, 28, 29, 30, 31, 32, 33, 34];
 
