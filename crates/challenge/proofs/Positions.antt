@@ -1,4 +1,4 @@
--- What is known of positions that are a challenge. Assumes nothing.
+-- What is known of positions that may be a challenge. Assumes nothing.
 use mathlib.Core.Path.{_≡_}
 use mathlib.Core.Bool.{true}
 use mathlib.Core.List.{List}
@@ -16,16 +16,20 @@ pub record Challenge (n : ℕ) (challenge : List ℕ) : Type 0 where
   pub below : positionsBelow n challenge ≡ true
   pub rising : ascends challenge ≡ true
 
-pub challenge-of : (n : ℕ) (challenge : List ℕ) → isChallenge n challenge ≡ true → Challenge n challenge
-unfolding isChallenge arePositions
-challenge-of n challenge h =
-    let fits = both-true (lengthFits n (length challenge)) _ (both-true (ltb 0 (length challenge)) (arePositions n challenge) h .1) in
+pub positions-of : (n : ℕ) (challenge : List ℕ) → arePositions n challenge ≡ true → Challenge n challenge
+unfolding arePositions
+positions-of n challenge h =
+    let fits = both-true (lengthFits n (length challenge)) _ h in
     let positions = both-true (positionsBelow n challenge) (ascends challenge) (fits .1) in
     record {
       few = leb-true (length challenge) 64 (both-true (leb (length challenge) 64) (leb (length challenge) n) (fits .0) .0);
       below = positions .0;
       rising = positions .1;
     }
+
+pub challenge-of : (n : ℕ) (challenge : List ℕ) → isChallenge n challenge ≡ true → Challenge n challenge
+unfolding isChallenge
+challenge-of n challenge h = positions-of n challenge (both-true (ltb 0 (length challenge)) (arePositions n challenge) h .1)
 
 pub position-below : (n : ℕ) (challenge : List ℕ) (k : ℕ) → positionsBelow n challenge ≡ true → k < length challenge
     → getD challenge k 0 < n

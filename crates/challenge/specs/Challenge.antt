@@ -22,7 +22,8 @@ positionsBelow n challenge = allBelow (λ (k : ℕ). ltb (getD challenge k 0) n)
 unfoldable pub ascends : (challenge : List ℕ) → Bool
 ascends challenge = allBelow (λ (k : ℕ). ltb (getD challenge k 0) (getD challenge (suc k) 0)) (length challenge - 1)
 
--- whether numbers can be the positions of a challenge at degree n: there are not too many, each is below n, and they ascend
+-- whether numbers can be the positions of a challenge at degree n: there are not too many, each is below n, and they ascend; there may be
+-- none
 unfoldable pub arePositions : (n : ℕ) (challenge : List ℕ) → Bool
 arePositions n challenge = lengthFits n (length challenge) && (positionsBelow n challenge && ascends challenge)
 

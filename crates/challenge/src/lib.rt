@@ -40,8 +40,8 @@ fn ascending(challenge: &[u32]) -> bool
     true
 }
 
-// Whether numbers can be the positions of a challenge at degree n.
-fn are_positions(n: usize, challenge: &[u32]) -> bool
+// Whether numbers can be the positions of a challenge at degree n; there may be none.
+pub fn are_positions(n: usize, challenge: &[u32]) -> bool
     ensures { λ r. ⌜ r ≡ arePositions n (now (challenge .entry)) ⌝ }
 {
     if !length_fits(n, challenge.len()) {
@@ -51,7 +51,7 @@ fn are_positions(n: usize, challenge: &[u32]) -> bool
     below & ascending(challenge)
 }
 
-// Whether positions are a challenge at degree n.
+// Whether they are a challenge: there is at least one.
 pub fn is_challenge(n: usize, challenge: &[u32]) -> bool
     ensures { λ r. ⌜ r ≡ isChallenge n (now (challenge .entry)) ⌝ }
 {

@@ -72,16 +72,20 @@ fails-outside bound values = record {
     somewhere [] e = absurd (false≢true (sym e))
     somewhere (v ∷ values) e = by v values (somewhere values) (leb (natAbs v) bound) refl e
 
-pub fails-no-challenge : (n : ℕ) (challenge : List ℕ)
-    → FailsWhere (isChallenge n challenge) ((length challenge ≡ 0) ⊎ TooMany n (length challenge) ⊎ NoPositions n challenge)
-unfolding isChallenge arePositions positionsBelow ascends
-fails-no-challenge n challenge =
+fails-no-positions : (n : ℕ) (challenge : List ℕ)
+    → FailsWhere (arePositions n challenge) (TooMany n (length challenge) ⊎ NoPositions n challenge)
+unfolding arePositions positionsBelow ascends
+fails-no-positions n challenge =
     let count = length challenge in
-    fails-either (fails-empty count)
-    (fails-either (fails-either (fails-above count 64) (fails-above count n))
+    fails-either (fails-either (fails-above count 64) (fails-above count n))
     (fails-either
     (fails-somewhere _ _ (λ k. fails-from (getD challenge k 0) n) count)
-    (fails-somewhere _ _ (λ k. fails-from (getD challenge k 0) (getD challenge (suc k) 0)) (count - 1))))
+    (fails-somewhere _ _ (λ k. fails-from (getD challenge k 0) (getD challenge (suc k) 0)) (count - 1)))
+
+pub fails-no-challenge : (n : ℕ) (challenge : List ℕ)
+    → FailsWhere (isChallenge n challenge) ((length challenge ≡ 0) ⊎ TooMany n (length challenge) ⊎ NoPositions n challenge)
+unfolding isChallenge
+fails-no-challenge n challenge = fails-either (fails-empty (length challenge)) (fails-no-positions n challenge)
 
 -- ** The table
 
@@ -112,7 +116,7 @@ respond-refuses n drawn challenge table words key y z list =
     refuses 2 _
     (fails-either (fails-unequal (length table) 21) (fails-either (fails-unequal (length y) (2 * n)) (fails-either (fails-unequal z (2 * n)) (fails-unequal (length key) (2 * n))))) (λ p2.
     refuses 4 _ (fails-no-polynomial table (eqb-true (length table) 21 (both-true (eqb (length table) 21) _ p2 .0))) (λ p4.
-    refuses 6 _ (fails-no-challenge n challenge) (λ p6.
+    refuses 6 _ (fails-no-positions n challenge) (λ p6.
     refuses 7 _ (fails-above 3 words) (λ p7.
     refuses 8 _ (fails-above (2 * n * length challenge + 47) list) (λ p8.
     refuses 9 _ fails-not-drawn (λ p9.

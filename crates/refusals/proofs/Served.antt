@@ -14,7 +14,7 @@ use Rattle.checks.proofs.Lines.{numbered, testOf, passes}
 use Rattle.exponential.specs.Exponential.{polynomial}
 use Rattle.exponential.proofs.Table.{polynomial-of}
 use Rattle.base_sample.specs.BaseSample.{wordsSmall, neverFalls, isCdt}
-use Rattle.challenge.proofs.Positions.{Challenge, challenge-of}
+use Rattle.challenge.proofs.Positions.{Challenge, positions-of}
 use Rattle.challenge_product.specs.Product.{keyBound}
 use Rattle.sampler.specs.Draw.{drawListLength}
 use Rattle.response.specs.Response.{noiseBound, respondListLength}
@@ -76,7 +76,7 @@ respond-served n drawn challenge table words key y z list h =
       y-both = eqb-true (length y) (2 * n) (sizes .0);
       z-both = eqb-true z (2 * n) (z-key .0);
       key-both = eqb-true (length key) (2 * n) (z-key .1);
-      positions = challenge-of n challenge (p 6);
+      positions = positions-of n challenge (p 6);
       words-enough = leb-true 3 words (p 7);
       list-enough = leb-true (respondListLength n (length challenge)) list (p 8);
       is-drawn = p 9;

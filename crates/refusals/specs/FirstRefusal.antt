@@ -1,4 +1,4 @@
--- Document 01's table of refusals, line by line, as statements about the number that a call answers. Numbers and conditions are written out
+-- Document 01's table of refusals, with request S-5's change to line 6, as statements about the number that a call answers. Numbers and conditions are written out
 -- as the table has them, and not by the tests of Refusals. Assumes nothing.
 use mathlib.Core.Path.{_≡_}
 use mathlib.Core.Bool.{Bool, false}
@@ -63,7 +63,7 @@ RespondRefuses n drawn challenge polynomial words key y z list =
     Refuses 1 (NoDegree n)
     (Refuses 2 ((length polynomial ≢ 21) ⊎ (length y ≢ 2 * n) ⊎ (z ≢ 2 * n) ⊎ (length key ≢ 2 * n))
     (Refuses 4 (NoPolynomial polynomial)
-    (Refuses 6 ((length challenge ≡ 0) ⊎ TooMany n (length challenge) ⊎ NoPositions n challenge)
+    (Refuses 6 (TooMany n (length challenge) ⊎ NoPositions n challenge)
     (Refuses 7 (words < 3)
     (Refuses 8 (list < 2 * n * length challenge + 47)
     (Refuses 9 (drawn ≡ false)

@@ -10,7 +10,7 @@ use Rattle.checks.specs.Checks.{isDegree, Line, line, firstRefusal}
 use Rattle.exponential.specs.Exponential.{isPolynomial}
 use Rattle.base_sample.specs.BaseSample.{isCdt}
 use Rattle.sampler.specs.Draw.{drawListLength}
-use Rattle.challenge.specs.Challenge.{isChallenge}
+use Rattle.challenge.specs.Challenge.{arePositions}
 use Rattle.challenge_product.specs.Product.{keyBound}
 use Rattle.response.specs.Response.{noiseBound, respondListLength}
 
@@ -44,17 +44,23 @@ noiseTests drawn key y =
 unfoldable pub noiseRefusal : (drawn : Bool) (key y : List ℤ) → ℕ
 noiseRefusal drawn key y = firstRefusal (noiseTests drawn key y)
 
--- responding; of the words, z and the list it looks at the lengths alone
-abbrev pub respondTests : (n : ℕ) (drawn : Bool) (challenge polynomial : List ℕ) (words : ℕ) (key y : List ℤ) (z list : ℕ)
+-- responding, where this tells which challenges are answered; of the words, z and the list it looks at the lengths alone
+abbrev pub respondTestsBy : (answers : (n : ℕ) (challenge : List ℕ) → Bool)
+    (n : ℕ) (drawn : Bool) (challenge polynomial : List ℕ) (words : ℕ) (key y : List ℤ) (z list : ℕ)
     → List Line
-respondTests n drawn challenge polynomial words key y z list =
+respondTestsBy answers n drawn challenge polynomial words key y z list =
     line 1 (isDegree n)
     ∷ line 2 (eqb (length polynomial) 21 && (eqb (length y) (2 * n) && (eqb z (2 * n) && eqb (length key) (2 * n))))
     ∷ line 4 (isPolynomial polynomial)
-    ∷ line 6 (isChallenge n challenge)
+    ∷ line 6 (answers n challenge)
     ∷ line 7 (leb 3 words)
     ∷ line 8 (leb (respondListLength n (length challenge)) list)
     ∷ noiseTests drawn key y
+
+-- the empty challenge is answered too, by request S-5
+abbrev pub respondTests : (n : ℕ) (drawn : Bool) (challenge polynomial : List ℕ) (words : ℕ) (key y : List ℤ) (z list : ℕ)
+    → List Line
+respondTests = respondTestsBy arePositions
 
 unfoldable pub respondRefusal : (n : ℕ) (drawn : Bool) (challenge polynomial : List ℕ) (words : ℕ) (key y : List ℤ) (z list : ℕ)
     → ℕ

@@ -72,7 +72,7 @@ pub fn respond_refusal(
     if !exponential::is_polynomial(polynomial) {
         return refused::POLYNOMIAL;
     }
-    if !challenge::is_challenge(n, challenge) {
+    if !challenge::are_positions(n, challenge) {
         return refused::CHALLENGE;
     }
     if words < response::WORDS {

@@ -13,8 +13,8 @@ use Rattle.checks.specs.Checks.{isDegree, Line}
 use Rattle.checks.proofs.JoinedTests.{holds, fails, holds-else, fails-then, allHold, orFails, one-fails}
 use Rattle.checks.proofs.Degrees.{degree-range}
 use Rattle.checks.proofs.Lines.{from, Reached, leaves, goes-on}
-use Rattle.challenge.specs.Challenge.{isChallenge}
-use Rattle.challenge.proofs.Positions.{challenge-of}
+use Rattle.challenge.specs.Challenge.{arePositions}
+use Rattle.challenge.proofs.Positions.{positions-of}
 use Rattle.response.specs.Response.{respondListLength}
 use Rattle.refusals.specs.Refusals.{noiseRefusal, respondTests, respondRefusal}
 use Rattle.refusals.proofs.respond_refusal.Statement.{statement}
@@ -117,21 +117,21 @@ from-6 : (c : tie.Else3) → From 6 (behind-4 c)
 unfolding from
 from-6 c = let test = c .before in goes-on (from-4 (test .before)) (holds (test .is-polynomial .ensures) (c .if3 .left))
 
-is-challenge-requires : tie.Need-is-challenge-requires
-is-challenge-requires c κs = search needs
+are-positions-requires : tie.Need-are-positions-requires
+are-positions-requires c κs = search needs
 
 returns-4 : tie.Need-returns-4
 unfolding from
-returns-4 c = let test = c .before in leaves (from-6 (test .before)) (fails (test .is-challenge .ensures) (c .if4 .taken))
+returns-4 c = let test = c .before in leaves (from-6 (test .before)) (fails (test .are-positions .ensures) (c .if4 .taken))
 
-challenge : (c : tie.Else4) → let a = behind-6 c .args in isChallenge (a .n) (a .challenge .now) ≡ true
-challenge c = holds (c .before .is-challenge .ensures) (c .if4 .left)
+positions : (c : tie.Else4) → let a = behind-6 c .args in arePositions (a .n) (a .challenge .now) ≡ true
+positions c = holds (c .before .are-positions .ensures) (c .if4 .left)
 
 -- ** Refusal 7
 
 from-7 : (c : tie.Else4) → From 7 (behind-6 c)
 unfolding from
-from-7 c = goes-on (from-6 (c .before .before)) (challenge c)
+from-7 c = goes-on (from-6 (c .before .before)) (positions c)
 
 returns-5 : tie.Need-returns-5
 unfolding from
@@ -150,7 +150,7 @@ entries-few c =
     let n = small (c .before .before .before .before .before .before) in
     mul-le-mul {n₁ = 2 * a .n} {m₁ = length (a .challenge .now)} {n₂ = 2048} {m₂ = 64}
     (omega (arith, n))
-    (challenge-of (a .n) (a .challenge .now) (challenge (c .before)) .few)
+    (positions-of (a .n) (a .challenge .now) (positions (c .before)) .few)
 
 mul-list-short : tie.Need-mul-list-short
 mul-list-short c = omega (arith, entries-few c)
@@ -185,5 +185,5 @@ returns-7 c = c .noise-refusal .ensures ∙ sym (from-9 (c .before) .told)
 pub respond-refusal-spec : {M : Type 1} → statement M
 respond-refusal-spec =
     tie.close
-    (tie.spec is-degree-requires returns mul-both returns-2 is-polynomial-requires returns-3 is-challenge-requires returns-4 returns-5
+    (tie.spec is-degree-requires returns mul-both returns-2 is-polynomial-requires returns-3 are-positions-requires returns-4 returns-5
     mul-list-short add-list-short returns-6 noise-refusal-requires returns-7)
