@@ -1,4 +1,5 @@
 pub mod ProductSizes
+pub mod EmptyChallenge
 pub mod OutputByPositions
 pub mod HalfByOutputs
 pub mod ProductByHalves

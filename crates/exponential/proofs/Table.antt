@@ -1,9 +1,9 @@
--- The polynomial table, the factorials and the constants of deviation 215. Assumes nothing.
+-- The polynomial table, the factorials, the constants of deviation 215, and e(0). Assumes nothing.
 use mathlib.Core.Path.{_≡_, refl, sym, ap, _∙_}
 use mathlib.Core.Bool.{Bool, true, false, _&&_}
 use mathlib.Core.List.{List, [], _∷_}
 use Prim.Native.Nat.{ℕ, zero, suc, _+_, _*_, _/_, _^_, _≤_, _<_}
-use native.Mathlib.Nat.{zero-lt-suc, add-zero, zero-add, add-suc, suc-add, le-of-suc-le-suc, not-suc-le-zero, mul-pos, le-trans}
+use native.Mathlib.Nat.{zero-lt-suc, add-zero, zero-add, add-suc, suc-add, le-of-suc-le-suc, not-suc-le-zero, zero-mul, mul-pos, le-trans}
 use native.Mathlib.Nat.{mul-le-mul-left, mul-le-mul-right, div-mul-le-self, le-div-iff-mul-le, le-of-mul-le-mul-right}
 use native.Mathlib.Omega.{arith}
 use borrow.Author.Tests.{eq-eqb, eqb-true}
@@ -11,7 +11,7 @@ use lib.Pow.{pow-pos}
 use lib.Dec.{eqb}
 use lib.ListN.{getD}
 use Rattle.exponential.specs.Exponential.{factorial, polynomialEntry, entriesFrom, polynomial, sameWords, isPolynomial}
-use Rattle.exponential.specs.Exponential.{reciprocal, expScaled, expWith, divisorAt, divisor}
+use Rattle.exponential.specs.Exponential.{reciprocal, scaled, evaluate, squared, squarings, expScaled, expWith, divisorAt, divisor}
 
 -- ** Factorials
 
@@ -99,3 +99,10 @@ reciprocal-215 = refl
 pub by-215 : (table : List ℕ) → expScaled table 3269134179596076729 ≡ expWith table divisor
 unfolding expWith
 by-215 table = ap (expScaled table) (sym reciprocal-215)
+
+-- ** N = 0
+
+-- e(0) is one, for every divisor
+pub exp-of-none : (q : ℕ) → expWith polynomial q 0 ≡ 2 ^ 62
+unfolding expWith expScaled scaled evaluate squarings squared polynomial entriesFrom factorial
+exp-of-none q = rw (zero-mul (reciprocal q)) refl

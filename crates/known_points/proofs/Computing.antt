@@ -17,7 +17,7 @@ use Rattle.challenge.specs.Challenge.{positionsBelow, ascends, arePositions, is
 use Rattle.challenge_product.specs.Product.{termAt, outputAt, outputsFrom, product, outputEntries, outputEntriesFrom, productEntries}
 use Rattle.acceptance.specs.Acceptance.{coshPasses, allPass, acceptsBy, acceptanceEntries}
 use Rattle.response.specs.Response.{responseOf, responseZ, isBounded, measuresOf, responseBit, respondEntries, respondedBy}
-use Rattle.refusals.specs.Refusals.{openRefusal, drawRefusal, noiseRefusal, respondRefusal}
+use Rattle.refusals.specs.Refusals.{openRefusal, drawRefusal, noiseRefusal, respondRefusal, respondRefusalBefore}
 use Rattle.session.specs.Calls.{opened, refusalOfDraw, bitsOfDraw, drawRefused, drawServed, drawLeft}
 use Rattle.session.specs.Calls.{refusalOfRespond, bitOfRespond, zOfRespond, respondRefused, respondServed, respondLeft}
 use Rattle.record.specs.Record.{valueBits, challengeBits, mapBits, fieldBits, recordOf}
@@ -35,8 +35,8 @@ unfolding polynomial polynomialFrom factorial evenThresholds thresholdsFrom cdt2
 tables = tt
 
 unfoldable pub refusals : Unit {0}
-unfolding openRefusal drawRefusal respondRefusal noiseRefusal firstRefusal isDegree among isCdt wordsSmall neverFalls allBelow
-    isPolynomial sameWords isChallenge arePositions positionsBelow ascends allWithin
+unfolding openRefusal drawRefusal respondRefusal respondRefusalBefore noiseRefusal firstRefusal isDegree among isCdt wordsSmall
+    neverFalls allBelow isPolynomial sameWords isChallenge arePositions positionsBelow ascends allWithin
 refusals = tt
 
 unfoldable pub exponentials : Unit {0}

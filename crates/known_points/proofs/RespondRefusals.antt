@@ -13,7 +13,6 @@ respond-refusals = record {
   respond-2-y = refl;
   respond-2-z = refl;
   respond-2-key = refl;
-  refusal-6-empty = refl;
   refusal-6-position = refl;
   responds-in-order = refl;
   served-55 = refl;

@@ -1,11 +1,11 @@
--- Demand 3 at degree 4: two lists of calls that are lent different words at places that are not read, one with refused calls among them,
--- one with another history, and lists of any number of calls. Assumes nothing.
+-- Demand 3 at degree 4: two lists of calls that are lent different words at places that are not read, two with blank responds and keys that
+-- agree nowhere, one with refused calls among them, one with another history, and lists of any number of calls. Assumes nothing.
 use mathlib.Core.Path.{_≡_}
 use mathlib.Core.Bool.{Bool, true, false}
 use mathlib.Core.List.{List, [], _∷_, _++_}
-use Prim.Native.Nat.{ℕ, zero, suc}
+use Prim.Native.Nat.{ℕ, zero, suc, _<_}
 use lib.IntN.{ℤ, pos, negsuc}
-use lib.ListN.{take, replicate}
+use lib.ListN.{take, replicate, getD}
 use Rattle.exponential.specs.Exponential.{polynomial}
 use Rattle.known_points.specs.EvenThresholds.{evenThresholds}
 use Rattle.sampler.specs.Draw.{drawEntries}
@@ -64,6 +64,22 @@ calls = callsOver 0 (pos 0) 0
 abbrev pub calls′ : List Call
 calls′ = callsOver 7 (pos 1) 9
 
+-- a blank respond over such samples, with a key of this value in every place
+unfoldable pub blankWith : (value : ℤ) → Respond
+blankWith value = record {
+  challenge = [];
+  polynomial = polynomial;
+  words = 0 ∷ 0 ∷ 0 ∷ [];
+  key = replicate 8 value;
+  y = oneToEight;
+  z = replicate 8 (pos 0);
+  list = replicate 47 0;
+}
+
+-- a draw, then such a respond
+unfoldable pub callsBlank : (value : ℤ) → List Call
+callsBlank value = draw (drawing 0 (pos 0) 0) ∷ respond (blankWith value) ∷ []
+
 -- the first list with such a draw instead
 unfoldable pub callsRejecting : List Call
 callsRejecting = draw rejecting ∷ respond (responding 0 (pos 0) 0) ∷ []
@@ -111,10 +127,10 @@ respondRefusedBy2 = answer
     (record { answer = record { refusal = 2; bit = false; entries = 0 }; session = record { degree = 4; drawn = true } })
     (pos 3 ∷ []) []
 
--- and of the respond: its bit is 1, y is all zero, and z
-abbrev pub answeredBy : (z : List ℤ) → Seen
-answeredBy z = answer
-    (record { answer = record { refusal = 0; bit = true; entries = 63 }; session = record { degree = 4; drawn = false } })
+-- and of a respond with so many entries: its bit is 1, y is all zero, and z
+abbrev pub answeredBy : (entries : ℕ) (z : List ℤ) → Seen
+answeredBy entries z = answer
+    (record { answer = record { refusal = 0; bit = true; entries = entries }; session = record { degree = 4; drawn = false } })
     (replicate 8 (pos 0)) z
 
 -- ** What demand 3 says of them
@@ -133,11 +149,19 @@ pub record Demand3Instance : Type 0 where
   pub reads-same : readList start calls ≡ readList start calls′
   -- what both give: 1 to 8, in this order; then z, all of y + Sc, Sc being 2, -2, 0, 2 and 3, -3, 3, -1
   pub seen-is : seen start calls
-      ≡ drawnOneToEight ∷ answeredBy (pos 3 ∷ pos 0 ∷ pos 3 ∷ pos 6 ∷ pos 8 ∷ pos 3 ∷ pos 10 ∷ pos 7 ∷ []) ∷ []
+      ≡ drawnOneToEight ∷ answeredBy 63 (pos 3 ∷ pos 0 ∷ pos 3 ∷ pos 6 ∷ pos 8 ∷ pos 3 ∷ pos 10 ∷ pos 7 ∷ []) ∷ []
   pub reads-are : readList start calls ≡ drawEntries 4 (replicate 8 true) ++ respondEntries 4 true (0 ∷ 2 ∷ [])
   -- the history of both
   pub history-is : history start calls ≡ drawnAndAnswered (replicate 8 true)
   pub history-is′ : history start calls′ ≡ drawnAndAnswered (replicate 8 true)
+  -- blank responds read no place of their keys: 7 everywhere and -7 everywhere meet it, and give the same, z being y
+  pub premises-blank : Meet (pos 0) (pos 0) (callsBlank (pos 7)) (callsBlank (negsuc 6))
+  pub keys-agree-nowhere : (i : ℕ) → i < 8
+      → getD (blankWith (pos 7) .key) i (pos 0) ≡ getD (blankWith (negsuc 6) .key) i (pos 0) → ⊥
+  pub seen-same-blank : seen start (callsBlank (pos 7)) ≡ seen start (callsBlank (negsuc 6))
+  pub reads-same-blank : readList start (callsBlank (pos 7)) ≡ readList start (callsBlank (negsuc 6))
+  pub seen-is-blank : seen start (callsBlank (pos 7)) ≡ drawnOneToEight ∷ answeredBy 47 oneToEight ∷ []
+  pub history-is-blank : history start (callsBlank (pos 7)) ≡ drew 4 (replicate 8 true) ∷ answered 4 true [] ∷ []
   -- refused calls may lend any y, and add nothing: the same history, and so by the first half the same read list
   pub seen-refused : take 3 (seen start callsRefused) ≡ drawnOneToEight ∷ drawRefusedBy2 ∷ respondRefusedBy2 ∷ []
   pub linked-refused : Linked start (replicate 8 (pos 0)) callsRefused

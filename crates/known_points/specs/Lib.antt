@@ -11,4 +11,5 @@ pub mod RespondRefusals
 pub mod KeyNumbers
 pub mod RecordNumbers
 pub mod ReadLists
+pub mod BlankNumbers
 pub mod Demand3Instance

@@ -44,8 +44,7 @@ pub record RespondRefusals : Type 0 where
   pub respond-2-y : respondRefusal 4 true (0 ∷ []) polynomial 3 zeros (replicate 7 (pos 0)) 8 55 ≡ 2
   pub respond-2-z : respondRefusal 4 true (0 ∷ []) polynomial 3 zeros zeros 7 55 ≡ 2
   pub respond-2-key : respondRefusal 4 true (0 ∷ []) polynomial 3 (replicate 7 (pos 0)) zeros 8 55 ≡ 2
-  -- a challenge that is empty, and one with a position n
-  pub refusal-6-empty : respondOf4 true [] zeros zeros 47 ≡ 6
+  -- a challenge with a position n
   pub refusal-6-position : respondOf4 true (4 ∷ []) zeros zeros 55 ≡ 6
   --
   -- ** Of several that apply, the first

@@ -4,15 +4,17 @@ use mathlib.Core.Bool.{Bool, true, false, _&&_, false≢true}
 use mathlib.Core.List.{List, [], _∷_}
 use mathlib.Core.Logic.{_⊎_, _≢_}
 use Prim.Native.Nat.{ℕ, suc, _+_, _-_, _*_, _^_, _<_}
+use native.Mathlib.Nat.{mul-zero}
 use native.Mathlib.Omega.{arith}
 use lib.Dec.{leb, eqb}
 use lib.IntN.{ℤ, natAbs}
 use lib.ListN.{length, getD}
 use lib.Seq.{ext-getD}
-use borrow.Author.Tests.{eqb-true, leb-false}
+use borrow.Author.Tests.{eqb-true, leb-false, le-leb}
 use Rattle.signed.specs.Vectors.{allWithin}
 use Rattle.signed.proofs.Vectors.{within-at}
-use Rattle.checks.specs.Checks.{allBelow}
+use Rattle.checks.specs.Checks.{isDegree, allBelow, Line, line, firstRefusal}
+use Rattle.checks.specs.RefusalTable.{Refuses}
 use Rattle.checks.proofs.JoinedTests.{both-true}
 use Rattle.checks.proofs.AllBelow.{all-at}
 use Rattle.checks.proofs.RefusalTable.{FailsWhere, refuses, serves, fails-unequal, fails-above, fails-from, fails-either, fails-somewhere}
@@ -21,9 +23,10 @@ use Rattle.exponential.specs.Exponential.{polynomialEntry, entriesFrom, polynom
 use Rattle.exponential.proofs.Table.{table-at, polynomial-of, is-polynomial}
 use Rattle.base_sample.specs.BaseSample.{threshold, wordsSmall, neverFalls, isCdt}
 use Rattle.challenge.specs.Challenge.{positionsBelow, ascends, arePositions, isChallenge}
-use Rattle.refusals.specs.Refusals.{openRefusal, drawRefusal, respondRefusal}
-use Rattle.refusals.specs.FirstRefusal.{NoCdt, NoPolynomial, TooMany, NoPositions, Outside, OpeningRefuses, DrawRefuses}
-use Rattle.refusals.specs.FirstRefusal.{RespondRefuses}
+use Rattle.response.specs.Response.{respondListLength}
+use Rattle.refusals.specs.Refusals.{openRefusal, drawRefusal, noiseTests, respondRefusal}
+use Rattle.refusals.specs.FirstRefusal.{NoDegree, NoCdt, NoPolynomial, TooMany, NoPositions, Outside, OpeningRefuses, DrawRefuses}
+use Rattle.refusals.specs.FirstRefusal.{NoiseRefuses, RespondRefuses, BlankRefuses}
 
 -- ** The tests of single lines
 
@@ -108,20 +111,58 @@ draw-refuses n limit cdt table words y list =
     twenty-one : (eqb (length cdt) 20 && (eqb (length table) 21 && eqb y (2 * n))) ≡ true → length table ≡ 21
     twenty-one e = eqb-true (length table) 21 (both-true (eqb (length table) 21) _ (both-true (eqb (length cdt) 20) _ e .1) .0)
 
-pub respond-refuses : (n : ℕ) (drawn : Bool) (challenge table : List ℕ) (words : ℕ) (key y : List ℤ) (z list : ℕ)
-    → RespondRefuses n drawn challenge table words key y z list (respondRefusal n drawn challenge table words key y z list)
-unfolding respondRefusal
-respond-refuses n drawn challenge table words key y z list =
-    refuses 1 _ (fails-no-degree n) (λ p1.
-    refuses 2 _
-    (fails-either (fails-unequal (length table) 21) (fails-either (fails-unequal (length y) (2 * n)) (fails-either (fails-unequal z (2 * n)) (fails-unequal (length key) (2 * n))))) (λ p2.
-    refuses 4 _ (fails-no-polynomial table (eqb-true (length table) 21 (both-true (eqb (length table) 21) _ p2 .0))) (λ p4.
-    refuses 6 _ (fails-no-positions n challenge) (λ p6.
-    refuses 7 _ (fails-above 3 words) (λ p7.
-    refuses 8 _ (fails-above (2 * n * length challenge + 47) list) (λ p8.
-    refuses 9 _ fails-not-drawn (λ p9.
+-- the lines of a respond behind that of its challenge
+fails-not-drawn : (drawn : Bool) → FailsWhere drawn (drawn ≡ false)
+fails-not-drawn drawn = record { fails = λ e. e; holds = λ e not-drawn. false≢true (sym not-drawn ∙ e) }
+
+noise-refuses : (drawn : Bool) (key y : List ℤ) → NoiseRefuses drawn key y (firstRefusal (noiseTests drawn key y))
+noise-refuses drawn key y =
+    refuses 9 _ (fails-not-drawn drawn) (λ p9.
     refuses 10 _ (fails-outside 7 key) (λ p10.
-    refuses 11 _ (fails-outside 2815 y) (λ p11. serves)))))))))
-  where
-    fails-not-drawn : FailsWhere drawn (drawn ≡ false)
-    fails-not-drawn = record { fails = λ e. e; holds = λ e not-drawn. false≢true (sym not-drawn ∙ e) }
+    refuses 11 _ (fails-outside 2815 y) (λ p11. serves)))
+
+-- and those before it, whatever follows them
+module _ (n : ℕ) (table : List ℕ) (y key : List ℤ) (z : ℕ) (later : ℕ → Type 0) (lines : List Line) where
+  lengths : Bool
+  lengths = eqb (length table) 21 && (eqb (length y) (2 * n) && (eqb z (2 * n) && eqb (length key) (2 * n)))
+
+  before-challenge : later (firstRefusal lines) →
+      Refuses 1 (NoDegree n)
+      (Refuses 2 ((length table ≢ 21) ⊎ (length y ≢ 2 * n) ⊎ (z ≢ 2 * n) ⊎ (length key ≢ 2 * n))
+      (Refuses 4 (NoPolynomial table) later))
+      (firstRefusal (line 1 (isDegree n) ∷ line 2 lengths ∷ line 4 (isPolynomial table) ∷ lines))
+  unfolding lengths
+  before-challenge rest =
+      refuses 1 _ (fails-no-degree n) (λ p1.
+      refuses 2 _ (fails-either (fails-unequal (length table) 21) (fails-either (fails-unequal (length y) (2 * n)) (fails-either (fails-unequal z (2 * n)) (fails-unequal (length key) (2 * n))))) (λ p2.
+      refuses 4 _ (fails-no-polynomial table (eqb-true (length table) 21 (both-true (eqb (length table) 21) _ p2 .0))) (λ p4. rest)))
+
+-- a line whose test holds tells nothing
+skips : {test : Bool} (refusal : ℕ) (lines : List Line) → test ≡ true → firstRefusal (line refusal test ∷ lines) ≡ firstRefusal lines
+unfolding firstRefusal
+skips refusal lines h = rw h
+
+no-positions : (n : ℕ) → arePositions n [] ≡ true
+unfolding arePositions positionsBelow ascends allBelow
+no-positions n = rw (le-leb 0 n (omega arith))
+
+module _ (n : ℕ) (drawn : Bool) (table : List ℕ) (words : ℕ) (key y : List ℤ) (z list : ℕ) where
+  pub respond-refuses : (challenge : List ℕ)
+      → RespondRefuses n drawn challenge table words key y z list (respondRefusal n drawn challenge table words key y z list)
+  unfolding respondRefusal lengths
+  respond-refuses challenge =
+      before-challenge n table y key z _ _
+      (refuses 6 _ (fails-no-positions n challenge) (λ p6.
+      refuses 7 _ (fails-above 3 words) (λ p7.
+      refuses 8 _ (fails-above (2 * n * length challenge + 47) list) (λ p8. noise-refuses drawn key y))))
+
+  pub blank-refuses : BlankRefuses n drawn table words key y z list (respondRefusal n drawn [] table words key y z list)
+  unfolding respondRefusal lengths
+  blank-refuses =
+      before-challenge n table y key z _ _
+      (rw (skips 6 _ (no-positions n))
+      (refuses 7 _ (fails-above 3 words) (λ p7.
+      refuses 8 _ no-key-entries (λ p8. noise-refuses drawn key y))))
+    where
+      no-key-entries : FailsWhere (leb (respondListLength n 0) list) (list < 47)
+      no-key-entries = rw (mul-zero (2 * n)) (fails-above 47 list)

@@ -1,2 +1,3 @@
 pub mod Served
 pub mod FirstRefusal
+pub mod AsBefore

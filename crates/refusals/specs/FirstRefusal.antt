@@ -56,6 +56,14 @@ DrawRefuses n limit cdt polynomial words y list =
     (Refuses 8 (list < 46 * limit + 2)
     Serves))))))
 
+-- a respond, as to y and the key
+abbrev pub NoiseRefuses : (drawn : Bool) (key y : List ℤ) (refusal : ℕ) → Type 0
+NoiseRefuses drawn key y =
+    Refuses 9 (drawn ≡ false)
+    (Refuses 10 (Outside 7 key)
+    (Refuses 11 (Outside 2815 y)
+    Serves))
+
 -- words, z and list are lengths
 abbrev pub RespondRefuses : (n : ℕ) (drawn : Bool) (challenge polynomial : List ℕ) (words : ℕ) (key y : List ℤ) (z list : ℕ)
     (refusal : ℕ) → Type 0
@@ -66,7 +74,14 @@ RespondRefuses n drawn challenge polynomial words key y z list =
     (Refuses 6 (TooMany n (length challenge) ⊎ NoPositions n challenge)
     (Refuses 7 (words < 3)
     (Refuses 8 (list < 2 * n * length challenge + 47)
-    (Refuses 9 (drawn ≡ false)
-    (Refuses 10 (Outside 7 key)
-    (Refuses 11 (Outside 2815 y)
-    Serves))))))))
+    (NoiseRefuses drawn key y))))))
+
+-- request S-5: where the challenge is empty, line 6 never applies
+abbrev pub BlankRefuses : (n : ℕ) (drawn : Bool) (polynomial : List ℕ) (words : ℕ) (key y : List ℤ) (z list : ℕ) (refusal : ℕ) → Type 0
+BlankRefuses n drawn polynomial words key y z list =
+    Refuses 1 (NoDegree n)
+    (Refuses 2 ((length polynomial ≢ 21) ⊎ (length y ≢ 2 * n) ⊎ (z ≢ 2 * n) ⊎ (length key ≢ 2 * n))
+    (Refuses 4 (NoPolynomial polynomial)
+    (Refuses 7 (words < 3)
+    (Refuses 8 (list < 47)
+    (NoiseRefuses drawn key y)))))

@@ -10,7 +10,7 @@ use Rattle.checks.specs.Checks.{isDegree, Line, line, firstRefusal}
 use Rattle.exponential.specs.Exponential.{isPolynomial}
 use Rattle.base_sample.specs.BaseSample.{isCdt}
 use Rattle.sampler.specs.Draw.{drawListLength}
-use Rattle.challenge.specs.Challenge.{arePositions}
+use Rattle.challenge.specs.Challenge.{arePositions, isChallenge}
 use Rattle.challenge_product.specs.Product.{keyBound}
 use Rattle.response.specs.Response.{noiseBound, respondListLength}
 
@@ -66,3 +66,9 @@ unfoldable pub respondRefusal : (n : ℕ) (drawn : Bool) (challenge polynomial :
     → ℕ
 respondRefusal n drawn challenge polynomial words key y z list =
     firstRefusal (respondTests n drawn challenge polynomial words key y z list)
+
+-- document 01's, by which the empty challenge was refused
+unfoldable pub respondRefusalBefore : (n : ℕ) (drawn : Bool) (challenge polynomial : List ℕ) (words : ℕ) (key y : List ℤ) (z list : ℕ)
+    → ℕ
+respondRefusalBefore n drawn challenge polynomial words key y z list =
+    firstRefusal (respondTestsBy isChallenge n drawn challenge polynomial words key y z list)

@@ -3,3 +3,4 @@ pub mod RespondTells
 pub mod Left
 pub mod Agreement
 pub mod ByRule
+pub mod Blank

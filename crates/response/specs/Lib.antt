@@ -1,2 +1,3 @@
 pub mod Response
 pub mod ByRule
+pub mod Blank

@@ -41,7 +41,7 @@ respond-refuses-first s r = rw (respond-left s r .number-is) (respond-refuses _ 
 -- ** A draw that is served
 
 -- e(N) over the table of a call that is served
-exp-over : (table : List ℕ) → table ≡ polynomial → expWith table divisor ≡ exp
+pub exp-over : (table : List ℕ) → table ≡ polynomial → expWith table divisor ≡ exp
 unfolding exp
 exp-over table h = rw h
 

@@ -2,3 +2,4 @@ pub mod Calls
 pub mod CallLaws
 pub mod ByRule
 pub mod Coefficients
+pub mod Blank

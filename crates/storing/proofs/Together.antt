@@ -13,10 +13,12 @@ use lib.Seq.{take-append-seam, length-take-le}
 use mir.Val.{boolByte}
 use Rattle.bits.specs.Bits.{odd}
 use Rattle.bits.specs.Items.{given, stands, itemsOf}
+use Rattle.bits.proofs.Reading.{IfGiven}
 use Rattle.lists.proofs.AtTheStart.{take-written}
 use Rattle.signed.specs.Vectors.{allWithin}
 use Rattle.signed.proofs.Vectors.{zeros-within, within-at, first-within, within-drop}
 use Rattle.checks.proofs.RefusalTable.{holds-unless}
+use Rattle.challenge.specs.Challenge.{isChallenge}
 use Rattle.challenge_product.specs.Product.{product}
 use Rattle.challenge_product.proofs.ProductSizes.{product-within, length-product}
 use Rattle.response.specs.Response.{subtracts, responseOf, responseZ, respondedBy}
@@ -26,6 +28,7 @@ use Rattle.session.specs.Calls.{Respond, bitOfRespond, zOfRespond, respondServe
 use Rattle.session.proofs.Calls.{respond-left, respond-passed}
 use Rattle.record.specs.Record.{FieldSet, valueLimit, isHalf, isFieldSet, recordOf}
 use Rattle.record.proofs.FieldSets.{is-field-set}
+use Rattle.record.specs.OneForOne.{longest}
 use Rattle.record.proofs.OneForOne.{longest-record}
 use Rattle.record_writer.specs.Call.{told, writeLeft}
 use Rattle.storing.proofs.Writing.{write-served, storable-served, refusal-is, writes-the-record}
@@ -33,7 +36,7 @@ use Rattle.record_reader.specs.Call.{contentsOf, haveRoom, ReadLeft, readServed
 use Rattle.record_reader.proofs.ReadLaws.{fits}
 use Rattle.storing.proofs.Reading.{fails-short, read-of-record, with-room, read-served, reads-the-fields}
 use Rattle.storing.specs.Reading.{Short, Gives}
-use Rattle.storing.specs.Together.{toldAgain, allFields, WrittenIsRead, ReadIsWritten, ResponsesAreStored}
+use Rattle.storing.specs.Together.{toldAgain, WrittenIsRead, ReadIsWritten, ResponsesAreStored, HalvesAreStored}
 
 -- ** What is written is read
 
@@ -143,13 +146,27 @@ z-handed s r h =
       small = response-within g (r .y) sc (p .y-small) (product-within (r .key) (s .degree) (p .key-small) (r .challenge) (p .positions .few));
     }))
 
-pub responses-are-stored : ResponsesAreStored
-unfolding given itemsOf
-responses-are-stored s r out h is enough =
+-- with a challenge that may stand in a record, or without one
+stored : (s : Session) (r : Respond) (tells : Bool) (out : List ℕ) → respondLeft s r .responded .answer .refusal ≡ 0 →
     let n = s .degree in
     let z = respondLeft s r .z in
-    let f = told n allFields (r .challenge) (take n z) (drop n z) in
+    let f = told n (record { challenge = tells; z1 = true; z2 = true }) (r .challenge) (take n z) (drop n z) in
+    IfGiven (λ (c : List ℕ). isChallenge n c ≡ true) (f .challenge) → longest n (length (itemsOf (f .challenge))) ≤ length out →
+    writeLeft f out .written .refusal ≡ 0
+unfolding given
+stored s r tells out h challenge enough =
+    let n = s .degree in
+    let z = respondLeft s r .z in
+    let f = told n (record { challenge = tells; z1 = true; z2 = true }) (r .challenge) (take n z) (drop n z) in
     let k = z-handed s r h in
     let halves = halves-right n z (k .long) (k .small) in
-    let right = is-field-set f (record { degree = respond-passed s r h .degree; challenge = is; z1 = halves .0; z2 = halves .1 }) in
+    let right = is-field-set f (record { degree = respond-passed s r h .degree; challenge = challenge; z1 = halves .0; z2 = halves .1 }) in
     refusal-is f out ∙ storable-served f (length out) right (le-trans (longest-record f right) enough)
+
+pub responses-are-stored : ResponsesAreStored
+unfolding given itemsOf
+responses-are-stored s r out h is enough = stored s r true out h is enough
+
+pub halves-are-stored : HalvesAreStored
+unfolding given itemsOf
+halves-are-stored s r out h enough = stored s r false out h tt enough

@@ -1,6 +1,7 @@
--- A signature that is stored, read and stored again, and responses: as the caller sees it, by request S-3. Assumes nothing.
+-- A signature that is stored, read and stored again, and responses: as the caller sees it, by request S-3; blank ones by S-5. Assumes
+-- nothing.
 use mathlib.Core.Path.{_≡_}
-use mathlib.Core.Bool.{true}
+use mathlib.Core.Bool.{true, false}
 use mathlib.Core.List.{List, _++_}
 use Prim.Native.Nat.{ℕ, _/_, _≤_}
 use lib.IntN.{ℤ}
@@ -65,3 +66,16 @@ ResponsesAreStored =
     isChallenge n (r .challenge) ≡ true →
     longest n (length (r .challenge)) ≤ length out →
     writeLeft (told n allFields (r .challenge) (take n (left .z)) (drop n (left .z))) out .written .refusal ≡ 0
+
+-- and without it: so is a blank response stored, which has none
+abbrev pub bothHalves : Fields
+bothHalves = record { challenge = false; z1 = true; z2 = true }
+
+abbrev pub HalvesAreStored : Type 0
+HalvesAreStored =
+    (s : Session) (r : Respond) (out : List ℕ) →
+    let n = s .degree in
+    let left = respondLeft s r in
+    left .responded .answer .refusal ≡ 0 →
+    longest n 0 ≤ length out →
+    writeLeft (told n bothHalves (r .challenge) (take n (left .z)) (drop n (left .z))) out .written .refusal ≡ 0
