@@ -9,6 +9,7 @@ enum { DEGREE = 16, SAMPLES = 2 * DEGREE, POSITIONS = 3 };
 
 static const struct draw draw = {DEGREE, 64, SAMPLES, 11, 0};
 static const struct response response = {DEGREE, POSITIONS, 1, BLISS_SERVED, 0};
+static const struct response blank = {DEGREE, 0, 1, BLISS_SERVED, 0};
 
 static size_t claims;
 static bool right = true;
@@ -75,36 +76,47 @@ static void test_draw(bliss_draw_answer answer)
     CHECK(!bliss_draw_fits(answer, DEGREE, list, answer.entries));
 }
 
-static bool respond_fits_changed(bliss_respond_answer answer, bool other_bit, size_t more_entries)
+static bool respond_fits_changed(bliss_respond_answer answer, size_t positions, bool other_bit, size_t more_entries)
 {
     answer.bit ^= other_bit;
     answer.entries += more_entries;
-    return bliss_respond_fits(answer, DEGREE, POSITIONS, list, sizeof list / sizeof *list);
+    return bliss_respond_fits(answer, DEGREE, positions, list, sizeof list / sizeof *list);
 }
 
-static void test_response(bliss_respond_answer answer)
+static void test_response(bliss_respond_answer answer, size_t positions)
 {
     uint32_t *last = &list[answer.entries - 1];
 
-    CHECK(bliss_respond_fits(answer, DEGREE, POSITIONS, list, answer.entries));
-    CHECK(!bliss_respond_fits(answer, DEGREE, POSITIONS, list, answer.entries - 1));
-    CHECK(!bliss_respond_fits(answer, DEGREE, POSITIONS + 1, list, answer.entries));
-    CHECK(!bliss_respond_fits(answer, DEGREE / 2, 2 * POSITIONS, list, answer.entries));
-    CHECK(respond_fits_changed(answer, false, 0));
-    CHECK(!respond_fits_changed(answer, true, 0));
-    CHECK(!respond_fits_changed(answer, false, 1));
-    CHECK(!bliss_respond_fits((bliss_respond_answer){BLISS_REFUSED_KEY, false, 0}, DEGREE, POSITIONS, list, answer.entries));
+    CHECK(bliss_respond_fits(answer, DEGREE, positions, list, answer.entries));
+    CHECK(!bliss_respond_fits(answer, DEGREE, positions, list, answer.entries - 1));
+    CHECK(!bliss_respond_fits(answer, DEGREE, positions + 1, list, answer.entries));
+    CHECK(!bliss_respond_fits(answer, DEGREE / 2, 2 * positions, list, answer.entries));
+    CHECK(respond_fits_changed(answer, positions, false, 0));
+    CHECK(!respond_fits_changed(answer, positions, true, 0));
+    CHECK(!respond_fits_changed(answer, positions, false, 1));
+    CHECK(!bliss_respond_fits((bliss_respond_answer){BLISS_REFUSED_KEY, false, 0}, DEGREE, positions, list, answer.entries));
     list[0] ^= BLISS_ENTRY(BLISS_KIND_DRAW ^ BLISS_KIND_RESPONSE, 0);
-    CHECK(!bliss_respond_fits(answer, DEGREE, POSITIONS, list, answer.entries));
+    CHECK(!bliss_respond_fits(answer, DEGREE, positions, list, answer.entries));
     list[0] ^= BLISS_ENTRY(BLISS_KIND_DRAW ^ BLISS_KIND_RESPONSE, 0);
     *last ^= BLISS_ENTRY(BLISS_KIND_BIT ^ BLISS_KIND_KEY, 0);
-    CHECK(!bliss_respond_fits(answer, DEGREE, POSITIONS, list, answer.entries));
+    CHECK(!bliss_respond_fits(answer, DEGREE, positions, list, answer.entries));
+}
+
+static void test_response_of(struct response r)
+{
+    bliss_responded responded;
+
+    prepare_response(r);
+    CHECK(!bliss_noise_is_zero(lent.y, SAMPLES));
+    responded = made_response(r);
+    CHECK(response_is_chosen(r, responded));
+    CHECK(bliss_noise_is_zero(lent.y, SAMPLES));
+    test_response(responded.answer, r.positions);
 }
 
 int main(void)
 {
     bliss_drawn drawn;
-    bliss_responded responded;
 
     seed_secrets("1");
     CHECK(prepare_draw(draw) == SAMPLES);
@@ -112,11 +124,8 @@ int main(void)
     CHECK(draw_is_chosen(draw, SAMPLES, drawn));
     test_noise();
     test_draw(drawn.answer);
-    prepare_response(response);
-    responded = made_response(response);
-    CHECK(response_is_chosen(response, responded));
-    CHECK(bliss_noise_is_zero(lent.y, SAMPLES));
-    test_response(responded.answer);
+    test_response_of(response);
+    test_response_of(blank);
     printf("tests against faults: %zu claims%s\n", claims, right ? "" : ", and some are false");
     return !right;
 }

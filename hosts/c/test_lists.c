@@ -50,12 +50,13 @@ static void expect_draw(void)
     expect(BLISS_KIND_ACCEPTED, SAMPLES);
 }
 
-static void expect_response(bool bit)
+/* A blank response has no positions, and so no entries of the key. */
+static void expect_response(size_t positions, bool bit)
 {
     count = 0;
     expect(BLISS_KIND_RESPONSE, DEGREE);
     for (size_t i = 0; i < SAMPLES; i++)
-        for (size_t j = 0; j < POSITIONS; j++)
+        for (size_t j = 0; j < positions; j++)
             expect(BLISS_KIND_KEY, i / DEGREE * DEGREE + (i + DEGREE - challenge[j]) % DEGREE);
     for (size_t i = 0; i < BLISS_RESPOND_WORDS; i++)
         expect(BLISS_KIND_WORD, i);
@@ -73,15 +74,18 @@ static int same(const char *call, const uint32_t *list, size_t length, size_t en
     return right;
 }
 
-/* Whether a response to the noise in y lists what one with this bit does. */
-static int same_response(const char *call, bliss_session session, bool bit)
+/* Whether a response to so many positions, with the noise in y, lists what one with this bit does. Nothing is left of the list
+ * before. */
+static int same_response(const char *call, bliss_session session, size_t positions, bool bit)
 {
-    bliss_responded responded =
-        bliss_respond(session, challenge, POSITIONS, polynomial, BLISS_POLYNOMIAL_WORDS, words, BLISS_RESPOND_WORDS, key, SAMPLES,
-                      y, SAMPLES, z, SAMPLES, respond_list, BLISS_RESPOND_ENTRIES(DEGREE, POSITIONS));
+    size_t length = BLISS_RESPOND_ENTRIES(DEGREE, positions);
+    bliss_responded responded;
 
-    expect_response(bit);
-    return same(call, respond_list, BLISS_RESPOND_ENTRIES(DEGREE, POSITIONS), responded.answer.entries);
+    memset(respond_list, 0, sizeof respond_list);
+    responded = bliss_respond(session, challenge, positions, polynomial, BLISS_POLYNOMIAL_WORDS, words, BLISS_RESPOND_WORDS, key,
+                              SAMPLES, y, SAMPLES, z, SAMPLES, respond_list, length);
+    expect_response(positions, bit);
+    return same(call, respond_list, length, responded.answer.entries);
 }
 
 int main(void)
@@ -93,8 +97,11 @@ int main(void)
 
     expect_draw();
     right = same("draw", draw_list, BLISS_DRAW_ENTRIES(SAMPLES), drawn.answer.entries);
-    right &= same_response("response, accepted", drawn.session, true);
+    right &= same_response("response, accepted", drawn.session, POSITIONS, true);
     y[0] = BLISS_COEFFICIENT_LIMIT + 1;
-    right &= same_response("response, rejected by a coefficient", drawn.session, false);
+    right &= same_response("response, rejected by a coefficient", drawn.session, POSITIONS, false);
+    right &= same_response("blank response, accepted", drawn.session, 0, true);
+    y[0] = BLISS_COEFFICIENT_LIMIT + 1;
+    right &= same_response("blank response, rejected by a coefficient", drawn.session, 0, false);
     return !right;
 }

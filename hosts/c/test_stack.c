@@ -175,9 +175,9 @@ static void measure_draw(const char *name, struct draw chosen)
     measure(name, make_draw);
 }
 
-static void measure_response(const char *name, uint64_t bit, uint32_t refusal)
+static void measure_response(const char *name, size_t positions, uint64_t bit, uint32_t refusal)
 {
-    response = (struct response){1024, 64, bit, refusal, 0};
+    response = (struct response){1024, positions, bit, refusal, 0};
     prepare_response(response);
     measure(name, make_response);
 }
@@ -221,11 +221,13 @@ int main(void)
     measure_draw("draw, spent", (struct draw){1024, 2048, 2047, 11, 0});
     draw.limit = 2047;
     measure("draw, refused", make_refused_draw);
-    measure_response("response, accepted", 1, BLISS_SERVED);
-    measure_response("response, rejected", 0, BLISS_SERVED);
-    measure_response("response, refusal 9", 0, BLISS_REFUSED_NOT_DRAWN);
-    measure_response("response, refusal 10", 0, BLISS_REFUSED_KEY);
-    measure_response("response, refusal 11", 0, BLISS_REFUSED_Y);
+    measure_response("response, accepted", 64, 1, BLISS_SERVED);
+    measure_response("response, rejected", 64, 0, BLISS_SERVED);
+    measure_response("blank response, accepted", 0, 1, BLISS_SERVED);
+    measure_response("blank response, rejected", 0, 0, BLISS_SERVED);
+    measure_response("response, refusal 9", 64, 0, BLISS_REFUSED_NOT_DRAWN);
+    measure_response("response, refusal 10", 64, 0, BLISS_REFUSED_KEY);
+    measure_response("response, refusal 11", 64, 0, BLISS_REFUSED_Y);
     prepare_record();
     measure("record written", write_record);
     measure("record written, refusal 14", write_refused_record);

@@ -66,7 +66,11 @@ static void box(void)
     call_draw((struct draw){16, 64, 32, 11, 4});
     call_draw((struct draw){16, 64, 31, 11, 5});
     call_draw((struct draw){1024, 2304, 2048, 15, 6});
+    /* A challenge of length 0 makes a blank response: its key is checked, and from the first entry on not read. */
     for (uint64_t bit = 0; bit < 2; bit++) {
+        call_respond(4, 0, bit);
+        call_respond(16, 0, bit);
+        call_respond(1024, 0, bit);
         call_respond(4, 1, bit);
         call_respond(4, 4, bit);
         call_respond(16, 1, bit);
@@ -76,8 +80,8 @@ static void box(void)
     }
 }
 
-/* What the box must not do: functions that list the CDT table, and but for the first read otherwise. Each access is volatile, so that
- * the compiler keeps it, and keeps it where it stands. */
+/* What the box must not do: functions that list the CDT table, and but for the first read otherwise. Each access is volatile, so
+ * that the compiler keeps it, and keeps it where it stands. */
 static size_t entries;
 
 static void lists(size_t place)

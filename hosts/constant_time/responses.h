@@ -6,7 +6,8 @@
 #include "lent.h"
 #include "secrets.h"
 
-/* What is public of a response. The challenge has one position in each of so many parts of the degree, by a generator. */
+/* What is public of a response. The challenge has one position in each of so many parts of the degree, by a generator; that of a
+ * blank response has none. */
 struct response {
     size_t n;
     size_t positions;
@@ -17,12 +18,18 @@ struct response {
 
 static const uint64_t one = UINT64_C(1) << 62;
 
+static inline bool is_blank(struct response r)
+{
+    return r.positions == 0;
+}
+
 static inline void fill_challenge(struct response r)
 {
-    size_t step = r.n / r.positions;
+    for (size_t i = 0; i < r.positions; i++) {
+        size_t step = r.n / r.positions;
 
-    for (size_t i = 0; i < r.positions; i++)
         challenge[i] = (uint32_t)(i * step + below(next(&r.state), step));
+    }
 }
 
 /* Values that are at most so far from a centre. */
@@ -70,18 +77,21 @@ static inline int32_t fitting_noise(struct response r, int32_t largest)
 
 /* At degrees 4 and 8 all keys in range are used, and all noise that keeps z1 in range: A and Z stay within their limits, e(N2) is
  * above 0, and the words decide. From 16 on values are small, but where A or Z is to reject: a large key takes A over its limit,
- * large noise Z, and both 2|I|. A long challenge at a large degree has a thin key, or A would always be over its limit. */
+ * large noise Z, and both 2|I|. A long challenge at a large degree has a thin key, or A would always be over its limit. A blank
+ * response has any key in range at every degree: it makes no use of it, and A and I are 0. */
 static inline void fill_values(struct response r, struct causes causes)
 {
     int32_t large_key = (int32_t)causes.by[TEST_A];
     int32_t large_noise = (int32_t)causes.by[TEST_Z];
 
-    if (r.n < 16) {
+    if (r.n < 16 || is_blank(r))
         fill_around(lent.key, 2 * r.n, 0, 7);
+    else
+        fill_around(lent.key, 2 * r.n, 6 * large_key, 1);
+    if (r.n < 16) {
         fill_around(lent.y, r.n, 0, fitting_noise(r, 7));
         fill_around(lent.y + r.n, r.n, 0, 2815);
     } else {
-        fill_around(lent.key, 2 * r.n, 6 * large_key, 1);
         fill_around(lent.y, r.n, (fitting_noise(r, 1) - 100) * large_noise, 100);
         fill_around(lent.y + r.n, r.n, 2715 * large_noise, 100);
     }
@@ -212,7 +222,8 @@ static inline uint64_t word_at(uint64_t edge, uint64_t is_below)
 /* How many responses were prepared that are rejected by z1 alone, since they pass all other tests. */
 static uint64_t rejected_by_z1_alone;
 
-/* Words with this sign that accept, or that reject where they are to. Word 1 rejects too where no other test can. */
+/* Words with this sign that accept, or that reject where they are to. Word 1 rejects too where no other test can: so it does where
+ * A or the cosh test is to reject a blank response, since every one passes both. */
 static inline void fill_words(struct response r, uint64_t minus, struct causes causes)
 {
     struct measures m = measures_of(r, sign_of(minus));
@@ -293,7 +304,9 @@ static inline bliss_responded made_response(struct response r)
 /* Whether a response came out as it was chosen. */
 static inline bool response_is_chosen(struct response r, bliss_responded responded)
 {
-    return responded.answer.refusal == r.refusal && responded.answer.bit == r.bit;
+    size_t entries = r.refusal == BLISS_SERVED ? BLISS_RESPOND_ENTRIES(r.n, r.positions) : 0;
+
+    return responded.answer.refusal == r.refusal && responded.answer.bit == r.bit && responded.answer.entries == entries;
 }
 
 #endif

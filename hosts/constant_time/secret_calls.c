@@ -114,6 +114,18 @@ static void respond(uint64_t bit, uint32_t refusal)
     call_respond((struct response){1024, 1, bit, refusal, 0});
 }
 
+/* Responses to the empty challenge. The key is checked as ever, and not used. */
+static void respond_blank(uint64_t bit, uint32_t refusal)
+{
+    for (int i = 0; i < OFTEN; i++) {
+        call_respond((struct response){4, 0, bit, refusal, 0});
+        call_respond((struct response){8, 0, bit, refusal, 0});
+        call_respond((struct response){16, 0, bit, refusal, 0});
+    }
+    call_respond((struct response){512, 0, bit, refusal, 0});
+    call_respond((struct response){1024, 0, bit, refusal, 0});
+}
+
 /* The most values and positions: it takes as long as all others. */
 static void respond_largest(uint64_t bit)
 {
@@ -126,27 +138,46 @@ static void accepted(void)
     respond_largest(1);
 }
 
+/* One of four rejected calls is, by its turn, and some of the others are by chance. */
+static void enough_by_z1_alone(void)
+{
+    as_chosen &= rejected_by_z1_alone >= calls / 4;
+}
+
 static void rejected(void)
 {
     respond(0, BLISS_SERVED);
     respond_largest(0);
-    /* One of four calls is, by its turn, and some of the others are by chance. */
-    as_chosen &= rejected_by_z1_alone >= calls / 4;
+    enough_by_z1_alone();
+}
+
+static void blank_accepted(void)
+{
+    respond_blank(1, BLISS_SERVED);
+}
+
+static void blank_rejected(void)
+{
+    respond_blank(0, BLISS_SERVED);
+    enough_by_z1_alone();
 }
 
 static void refused_9(void)
 {
     respond(0, BLISS_REFUSED_NOT_DRAWN);
+    respond_blank(0, BLISS_REFUSED_NOT_DRAWN);
 }
 
 static void refused_10(void)
 {
     respond(0, BLISS_REFUSED_KEY);
+    respond_blank(0, BLISS_REFUSED_KEY);
 }
 
 static void refused_11(void)
 {
     respond(0, BLISS_REFUSED_Y);
+    respond_blank(0, BLISS_REFUSED_Y);
 }
 
 static void call_check_key(struct key_check c)
@@ -260,6 +291,8 @@ static const struct kind {
     {"draw_spent", draw_spent},
     {"accepted", accepted},
     {"rejected", rejected},
+    {"blank_accepted", blank_accepted},
+    {"blank_rejected", blank_rejected},
     {"refused_9", refused_9},
     {"refused_10", refused_10},
     {"refused_11", refused_11},

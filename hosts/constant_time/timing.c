@@ -47,6 +47,8 @@ struct measurement {
 static const struct draw full = {512, 2048, 1024, 11, 0};
 static const struct response accepted = {512, 23, 1, BLISS_SERVED, 0};
 static const struct response rejected = {512, 23, 0, BLISS_SERVED, 0};
+static const struct response blank_accepted = {512, 0, 1, BLISS_SERVED, 0};
+static const struct response blank_rejected = {512, 0, 0, BLISS_SERVED, 0};
 static const struct key_check passed = {512, 23, BLISS_SERVED, 1, 1};
 static word fixed[sizeof lent / sizeof(word)];
 static volatile uint64_t found;
@@ -84,6 +86,16 @@ static void any_accepted(void)
 static void any_rejected(void)
 {
     prepare_response(rejected);
+}
+
+static void any_blank_accepted(void)
+{
+    prepare_response(blank_accepted);
+}
+
+static void any_blank_rejected(void)
+{
+    prepare_response(blank_rejected);
 }
 
 static void by_z1_alone(void)
@@ -147,11 +159,19 @@ static uint64_t call_draw(void)
 }
 
 /* The bit, or 100 and the refusal. */
+static uint64_t bit_or_refusal(bliss_respond_answer answer)
+{
+    return answer.refusal == BLISS_SERVED ? answer.bit : 100 + answer.refusal;
+}
+
 static uint64_t call_respond(void)
 {
-    bliss_respond_answer answer = made_response(accepted).answer;
+    return bit_or_refusal(made_response(accepted).answer);
+}
 
-    return answer.refusal == BLISS_SERVED ? answer.bit : 100 + answer.refusal;
+static uint64_t call_respond_blank(void)
+{
+    return bit_or_refusal(made_response(blank_accepted).answer);
 }
 
 static uint64_t call_check_key(void)
@@ -186,6 +206,8 @@ static const struct timed all_timed[] = {
     {"bliss_respond, bit 1", any_accepted, any_accepted, call_respond, 1, RESPONSE, 20000, false},
     {"bliss_respond, bit 0", any_rejected, any_rejected, call_respond, 0, RESPONSE, 20000, false},
     {"bliss_respond, bit 0: by z1 alone, or by others", by_z1_alone, by_others, call_respond, 0, RESPONSE, 20000, false},
+    {"bliss_respond, blank, bit 1", any_blank_accepted, any_blank_accepted, call_respond_blank, 1, RESPONSE, 50000, false},
+    {"bliss_respond, blank, bit 0", any_blank_rejected, any_blank_rejected, call_respond_blank, 0, RESPONSE, 50000, false},
     {"bliss_respond, refusal 10: bad first, or anywhere", bad_key_first, bad_key_any, call_respond, 110, RESPONSE, 50000, false},
     {"bliss_respond, refusal 11: bad first, or anywhere", bad_y_first, bad_y_any, call_respond, 111, RESPONSE, 50000, false},
     {"bliss_check_key: the key is 0, or any that passes", zero_key, any_key, call_check_key, 0, RESPONSE, 1000, false},
