@@ -54,8 +54,8 @@ extern "C" {
  * C99 has no static assertions. */
 #define BLISS_LAYOUT(name, claim) typedef char bliss_layout_of_##name[(claim) ? 1 : -1]
 
-/* The version of this header, 10000 * major + 100 * minor + patch: 0.6.0. */
-#define BLISS_BOX_VERSION 600
+/* The version of this header, 10000 * major + 100 * minor + patch: 0.7.0. */
+#define BLISS_BOX_VERSION 700
 
 /* The version of the archive, by the same rule. A host compares it with BLISS_BOX_VERSION at its start, before any other call,
  * and ends where they differ: a session travels by value, and an archive of another version may take its bytes for something
@@ -76,8 +76,8 @@ enum {
     BLISS_REFUSED_CDT = 3,         /* a CDT word is 2^62 or more, or a threshold is below the one before */
     BLISS_REFUSED_POLYNOMIAL = 4,  /* an entry of the polynomial table is not the whole part of 2^62 / j! */
     BLISS_REFUSED_LIMIT = 5,       /* the limit is outside 2n to 32n */
-    BLISS_REFUSED_CHALLENGE = 6,   /* the challenge is empty, longer than 64 or than n, has a position of n or more, or does
-                                      not ascend strictly */
+    BLISS_REFUSED_CHALLENGE = 6,   /* the challenge is longer than 64 or than n, has a position of n or more, or does not ascend
+                                      strictly; that of a record, or of a key check by its length, is empty */
     BLISS_REFUSED_WORDS = 7,       /* there are fewer than 4 words for each attempt of a draw, or than 3 for a response */
     BLISS_REFUSED_LIST = 8,        /* the list is shorter than 46 entries for each attempt of a draw and 2 more, or than 2n for
                                       each position of a challenge and 47 more */
@@ -278,6 +278,9 @@ BLISS_LAYOUT(responded, sizeof(bliss_responded) == 32 && offsetof(bliss_responde
  *          itself. Or bit false, a rejection: z is all zero. Either way y is all zero and the next session is not drawn, so that
  *          the noise is used once: a rejection wants a new draw. After the checks, each read of the key, the words and the
  *          polynomial is listed from the start of the list, and last the bit; bliss_filled gives the filled part.
+ * Blank:   an empty challenge, of length 0, is served, for bench work. Its product is zero: bit true hands the noise back, z being
+ *          what y was, and no read of the key is listed. The key must be a key all the same. A signer tests the length of its
+ *          challenge before this call, so that a hash that failed hands no noise out.
  * Refuses: 1, 2, 4, 6, 7, 8, 9, 10, 11, in this order.
  * Leaves:  the list behind the entries, the challenge, the polynomial, the words and the key; refused, everything.
  * Time:    no jump and no address depends on words, key, y or z, except by the response's bit, which the list shows, and by

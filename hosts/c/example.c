@@ -192,7 +192,8 @@ static bool respond(struct buffers *b, bliss_session *session, bliss_respond_ans
     size_t list_length = BLISS_RESPOND_ENTRIES(b->degree, b->positions);
     bliss_responded responded;
 
-    if (!fill_with_fresh(b->respond_words, BLISS_RESPOND_WORDS))
+    /* An empty challenge would be served, and hand the noise out. */
+    if (!right(b->positions > 0, "the challenge is empty") || !fill_with_fresh(b->respond_words, BLISS_RESPOND_WORDS))
         return false;
     responded = bliss_respond(*session, b->challenge, b->positions, polynomial, BLISS_POLYNOMIAL_WORDS, b->respond_words,
                               BLISS_RESPOND_WORDS, b->key, b->samples, b->y, b->samples, b->z, b->samples, b->respond_list,

@@ -1,5 +1,5 @@
--- Request S-5 in numbers, at degree 4: what a respond to the empty challenge is still refused for, what it gives, and that the key check and
--- the record want a position as before. negsuc k is -(k + 1). Assumes nothing.
+-- Request S-5 in numbers, at degree 4: what a respond to the empty challenge is still refused for, what it gives, and that the key check
+-- and the record want a position as before. negsuc k is -(k + 1). Assumes nothing.
 use mathlib.Core.Path.{_≡_}
 use mathlib.Core.Bool.{true, false}
 use mathlib.Core.List.{List, [], _∷_, _++_}

@@ -8,15 +8,11 @@ use native.Mathlib.Omega.{arith}
 use lib.IntN.{ℤ}
 use lib.ListN.{length}
 use borrow.Author.Tests.{lt-ltb}
-use Rattle.challenge.specs.Challenge.{arePositions, isChallenge}
+use Rattle.challenge.specs.Challenge.{isChallenge}
 use Rattle.refusals.specs.Refusals.{respondRefusal, respondRefusalBefore}
-
-tested-as-before : (n : ℕ) (challenge : List ℕ) → challenge ≢ [] → arePositions n challenge ≡ isChallenge n challenge
-unfolding isChallenge
-tested-as-before n [] some = absurd (some refl)
-tested-as-before n (c ∷ challenge) some = rw (lt-ltb 0 (length (c ∷ challenge)) (omega arith))
 
 pub refused-as-before : (n : ℕ) (drawn : Bool) (challenge table : List ℕ) (words : ℕ) (key y : List ℤ) (z list : ℕ) → challenge ≢ []
     → respondRefusal n drawn challenge table words key y z list ≡ respondRefusalBefore n drawn challenge table words key y z list
-unfolding respondRefusal respondRefusalBefore
-refused-as-before n drawn challenge table words key y z list some = rw (tested-as-before n challenge some)
+unfolding respondRefusal respondRefusalBefore isChallenge
+refused-as-before n drawn [] table words key y z list some = absurd (some refl)
+refused-as-before n drawn (c ∷ challenge) table words key y z list some = rw (lt-ltb 0 (length (c ∷ challenge)) (omega arith))

@@ -1,5 +1,5 @@
--- Document 01's table of refusals, with request S-5's change to line 6, as statements about the number that a call answers. Numbers and conditions are written out
--- as the table has them, and not by the tests of Refusals. Assumes nothing.
+-- Document 01's table of refusals, with request S-5's change of line 6, as statements about the number that a call answers. Numbers and
+-- conditions are written out as the table has them, and not by the tests of Refusals. Assumes nothing.
 use mathlib.Core.Path.{_≡_}
 use mathlib.Core.Bool.{Bool, false}
 use mathlib.Core.List.{List}
@@ -77,7 +77,8 @@ RespondRefuses n drawn challenge polynomial words key y z list =
     (NoiseRefuses drawn key y))))))
 
 -- request S-5: where the challenge is empty, line 6 never applies
-abbrev pub BlankRefuses : (n : ℕ) (drawn : Bool) (polynomial : List ℕ) (words : ℕ) (key y : List ℤ) (z list : ℕ) (refusal : ℕ) → Type 0
+abbrev pub BlankRefuses : (n : ℕ) (drawn : Bool) (polynomial : List ℕ) (words : ℕ) (key y : List ℤ) (z list : ℕ)
+    (refusal : ℕ) → Type 0
 BlankRefuses n drawn polynomial words key y z list =
     Refuses 1 (NoDegree n)
     (Refuses 2 ((length polynomial ≢ 21) ⊎ (length y ≢ 2 * n) ⊎ (z ≢ 2 * n) ⊎ (length key ≢ 2 * n))

@@ -68,7 +68,7 @@ respondRefusal n drawn challenge polynomial words key y z list =
     firstRefusal (respondTests n drawn challenge polynomial words key y z list)
 
 -- document 01's, by which the empty challenge was refused
-unfoldable pub respondRefusalBefore : (n : ℕ) (drawn : Bool) (challenge polynomial : List ℕ) (words : ℕ) (key y : List ℤ) (z list : ℕ)
-    → ℕ
+unfoldable pub respondRefusalBefore : (n : ℕ) (drawn : Bool) (challenge polynomial : List ℕ) (words : ℕ) (key y : List ℤ)
+    (z list : ℕ) → ℕ
 respondRefusalBefore n drawn challenge polynomial words key y z list =
     firstRefusal (respondTestsBy isChallenge n drawn challenge polynomial words key y z list)

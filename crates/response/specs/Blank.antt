@@ -1,4 +1,5 @@
--- A response to the empty challenge, by request S-5: what is left of its tests and of its list where Sc is zero, and z is y. Assumes nothing.
+-- A response to the empty challenge, by request S-5: what is left of its tests and its list where Sc is zero, so that z is y. Assumes
+-- nothing.
 use mathlib.Core.Bool.{Bool}
 use mathlib.Core.List.{List, [], _∷_, _++_}
 use Prim.Native.Nat.{ℕ, _%_, _^_, _≤_, _<_}

@@ -9,6 +9,7 @@ mod ending;
 mod files;
 mod numbers;
 mod output;
+mod picture;
 mod program;
 mod refused;
 mod version;

@@ -1,7 +1,8 @@
 //! The BLISS-I sampling box for a Rust host. It draws the noise vector y of a signature from random words that the host
 //! supplies, turns y, a key and a challenge into a response or a rejection, and lists what it reads of words, tables and key
 //! after its checks. Before a key goes into a box, it tells whether the key can always sign; and it stores signatures as bytes
-//! ([`Record`]). Documents 01 and 02 are the definition of the box; docs/SPECIFICATION.md has its rules, and what is listed.
+//! ([`Record`]). For bench work it hands the noise itself back ([`Noise::respond_blank`]). Documents 01 and 02 are the definition of
+//! the box; docs/SPECIFICATION.md has its rules, and what is listed.
 //!
 //! ```
 //! use bliss_box::{check_key, draw_limit, draw_word_count, OwnedDraw, Record, Secret, Session};

@@ -27,6 +27,10 @@ pub const fn respond_list_length(n: usize, positions: usize) -> usize {
     sample_count(n) * positions + 47
 }
 
+/// In the place of an empty challenge, where a blank response was not asked for: a position of no degree. So the box refuses it by
+/// 6, after whatever else is wrong with the call and comes before.
+const NO_CHALLENGE: &[u32] = &[u32::MAX];
+
 /// What a served response came to.
 #[derive(Clone, Copy, Debug, PartialEq, Eq)]
 pub struct Outcome {
@@ -47,8 +51,8 @@ pub struct Responded {
 }
 
 impl Session {
-    /// Turns `y`, the key (s1 and then s2) and the challenge (its positions, ascending) into the response `z` or a rejection, and
-    /// lists its reads from the start of `list`.
+    /// Turns `y`, the key (s1 and then s2) and the challenge (its positions, ascending, at least one) into the response `z` or a
+    /// rejection, and lists its reads from the start of `list`.
     ///
     /// Bit true: `z` is y plus or minus the product of key and challenge modulo X^n + 1. Bit false: `z` is all zero, and a new try
     /// needs a new draw. Either way `y` is all zero, and the next session has nothing drawn. The rest of `list` is unchanged. A
@@ -58,8 +62,45 @@ impl Session {
     /// by [`CDT`](crate::CDT) a response is accepted with a chance of about 0.61, and never where the product's sum of squares is
     /// above 46,225; a key that passes [`check_key`](crate::check_key) at the challenge's length makes no such product. Nor is one
     /// accepted with a value of z1 above [`COEFFICIENT_LIMIT`] in size, which this noise all but never makes.
+    ///
+    /// An empty challenge, as a hash that failed may leave it, is refused. [`Session::respond_blank`] answers it.
     #[allow(clippy::too_many_arguments)]
     pub fn respond(
+        self,
+        challenge: &[u32],
+        polynomial: &[u64],
+        words: &[u64],
+        key: &[i32],
+        y: &mut [i32],
+        z: &mut [i32],
+        list: &mut [u32],
+    ) -> Responded {
+        let challenge = if challenge.is_empty() { NO_CHALLENGE } else { challenge };
+        self.answer(challenge, polynomial, words, key, y, z, list)
+    }
+
+    /// A blank response, for bench work: the response to the empty challenge. Its product is zero, so that bit true hands the noise
+    /// back as it was drawn: `z` is what `y` was.
+    ///
+    /// All tests of the bit apply; noise drawn by [`CDT`](crate::CDT) passes with a chance of about 0.61. It asks for words, a list
+    /// ([`respond_list_length`] of 0 positions) and a key as [`Session::respond`] does, leaves `y`, `z` and `list` as that does, and
+    /// reads of the key no more than its range.
+    ///
+    /// This `z` is raw noise. Whoever has a response over the same noise too, made of the same words, has the key.
+    pub fn respond_blank(
+        self,
+        polynomial: &[u64],
+        words: &[u64],
+        key: &[i32],
+        y: &mut [i32],
+        z: &mut [i32],
+        list: &mut [u32],
+    ) -> Responded {
+        self.answer(&[], polynomial, words, key, y, z, list)
+    }
+
+    #[allow(clippy::too_many_arguments)]
+    fn answer(
         self,
         challenge: &[u32],
         polynomial: &[u64],

@@ -79,6 +79,11 @@ fn secrets_are_wiped_when_they_are_dropped() {
     let counts = given_back(8 * lent, || responded = Some(noise.respond(&[1], &POLYNOMIAL, words, &key)));
     assert_eq!(counts, (1, 0), "a response wipes its words");
     assert!(responded.unwrap().is_ok());
+    let (noise, words) = (draw(), Secret::system_words(lent).unwrap());
+    let mut responded = None;
+    let counts = given_back(8 * lent, || responded = Some(noise.respond_blank(&POLYNOMIAL, words, &key)));
+    assert_eq!(counts, (1, 0), "so does a blank one");
+    assert!(responded.unwrap().is_ok());
 
     // A key of zeros makes z the noise.
     let (noise, words) = (draw(), Secret::zeroed(RESPOND_WORDS));

@@ -81,7 +81,12 @@ fn put_usage(page: &mut Roff, command: &mut clap::Command) {
     let usage = command.render_usage().to_string();
     let usage = usage.trim_start_matches("Usage: ");
     let name = command.get_bin_name().unwrap_or(command.get_name());
-    page.text([bold(name), roman(usage.strip_prefix(name).unwrap_or(usage))]);
+    for (number, way) in usage.lines().map(str::trim).enumerate() {
+        if number > 0 {
+            page.control("PP", []);
+        }
+        page.text([bold(name), roman(way.strip_prefix(name).unwrap_or(way))]);
+    }
 }
 
 fn put_argument(page: &mut Roff, argument: &Arg) {
@@ -99,15 +104,19 @@ fn tag(argument: &Arg) -> Vec<Inline> {
     if let Some(long) = argument.get_long() {
         tag.push(bold(format!("--{long}")));
     }
-    for value in argument.get_value_names().unwrap_or_default() {
+    let takes_values = argument.get_action().takes_values();
+    for value in argument.get_value_names().unwrap_or_default().iter().filter(|_| takes_values) {
         let before = if argument.is_positional() { "" } else { " " };
         tag.extend([roman(before), italic(value.as_str())]);
     }
     tag
 }
 
-/// The default and the possible values of an argument, in the form in which the help has them.
+/// The default and the possible values of an argument that takes one, in the form in which the help has them.
 fn values(argument: &Arg) -> String {
+    if !argument.get_action().takes_values() {
+        return String::new();
+    }
     let default = argument.get_default_values().iter().map(|value| value.to_string_lossy().into_owned());
     let possible = argument.get_possible_values();
     let possible = possible.iter().map(|value| value.get_name().to_owned());

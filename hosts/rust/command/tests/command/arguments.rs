@@ -43,18 +43,21 @@ fn each_command_has_help() {
 fn each_option_is_in_the_help() {
     let drawing = ["--degree", "--limit", "--cdt", "--words", "--list"];
     assert_eq!(options("draw"), drawing);
-    assert_eq!(options("respond"), [&["--key", "--challenge", "--tries", "--record"], &drawing[..]].concat());
+    let responding = ["--key", "--challenge", "--blank", "--picture", "--tries", "--record"];
+    assert_eq!(options("respond"), [&responding[..], &drawing].concat());
     assert_eq!(options("check-key"), ["--length", "--degree"]);
     assert_eq!(options("record write"), ["--degree", "--challenge", "--z1", "--z2"]);
     assert_eq!(options("record read"), ["--challenge", "--z1", "--z2"]);
     assert_eq!(options("demo"), ["--degree"]);
     for command in commands() {
         for option in options(&command) {
-            wrong(
-                &calling(&command, &[&option]),
-                &format!("The argument '{option} <"),
-                "requires a value but none was supplied",
-            );
+            if FLAGS.contains(&option.as_str()) {
+                let with = format!("{option}=yes");
+                wrong(&calling(&command, &[&with]), "The value 'yes'", &format!("'{option}' but it wasn't expecting any more"));
+            } else {
+                let problem = "requires a value but none was supplied";
+                wrong(&calling(&command, &[&option]), &format!("The argument '{option} <"), problem);
+            }
         }
     }
 }

@@ -111,6 +111,9 @@ fn short_help(command: &str) -> String {
     printed(&calling(command, &["-h"]))
 }
 
+/// The options that take no value.
+const FLAGS: [&str; 2] = ["--blank", "--picture"];
+
 /// The options of a command that its help names, without --help, which all have.
 fn options(command: &str) -> Vec<String> {
     let options = named(&short_help(command), "Options:");

@@ -17,7 +17,8 @@ fn each_command_and_option_is_in_the_manual() {
         let section = section(&format!("\n{described}"), "SS", &heading).to_owned();
         assert!(section.starts_with(&format!("\\fBbliss\\-box {}\\fR", command.replace('-', "\\-"))), "{section}");
         for option in options(&command) {
-            let tag = format!("\n.TP\n\\fB{}\\fR ", option.replace('-', "\\-"));
+            let value = if FLAGS.contains(&option.as_str()) { '\n' } else { ' ' };
+            let tag = format!("\n.TP\n\\fB{}\\fR{value}", option.replace('-', "\\-"));
             assert_eq!(section.matches(&tag).count(), 1, "{option}: {section}");
         }
         for argument in named(&short_help(&command), "Arguments:") {

@@ -60,6 +60,87 @@ fn long_products_are_never_accepted() {
     assert!(ran.err.ends_with(&format!("whose sum of squares is above 46225 {advice}")), "{}", ran.err);
 }
 
+/// Words of two tries at degree 4 with a limit of 8, of which the first is rejected, whatever the challenge, and the second accepted.
+fn rejected_and_accepted() -> Vec<u64> {
+    let of_noise = |sample: u64| [0, 0, sample, 0].repeat(8);
+    [of_noise(3), vec![1, u64::MAX, 0], of_noise(257), vec![1, 0, u64::MAX]].concat()
+}
+
+/// The noise of the second try, whatever the key is, and without one.
+#[test]
+fn a_blank_response_is_the_noise() {
+    let words = file("blank-words", lines(&rejected_and_accepted()));
+    let with = ["respond", "--blank", "--degree", "4", "--limit", "8", "--words", &words];
+    let keys = [-7, 0, 7].map(|value| file(&format!("blank-key{value}"), lines(&[value; 8])));
+    for key in [vec![], vec!["--key", &keys[0]], vec!["--key", &keys[1]], vec!["--key", &keys[2]]] {
+        let ran = run(&[&with[..], &key].concat());
+        assert_eq!((ran.status, ran.out), (0, lines(&[-1; 8])));
+        let drawn = "draw full: attempts 8, accepted 8, entries 370";
+        let tries = ["rejected", "accepted"].map(|end| format!("{drawn}; blank response {end}: entries 47\n"));
+        assert!(ran.err.ends_with(&format!("try 1: {}try 2: {}", tries[0], tries[1])), "{}", ran.err);
+    }
+    let ran = run(&[&with[..], &["--tries", "1"]].concat());
+    assert_eq!((ran.status, ran.out.as_str()), (3, ""));
+    assert!(ran.err.ends_with("\nno response accepted: tries 1.\n"), "no advice on the product: {}", ran.err);
+}
+
+#[test]
+fn a_key_that_is_not_used_is_tested() {
+    for (key, problem) in [
+        (vec![0; 7], "refusal 2: its length is 7, and 8 is wanted"),
+        (vec![0, 0, 0, 0, 0, 0, 0, 8], "refusal 10: a value of the key is outside -7 to 7"),
+    ] {
+        let key = file("blank-refused-key", lines(&key));
+        fails(&["respond", "--blank", "--degree", "4", "--key", &key], 1, &format!("{key}: {problem}"));
+    }
+    let words = file("blank-few-words", lines(&rejected_and_accepted()[..34]));
+    let ran = run(&["respond", "--blank", "--degree", "4", "--limit", "8", "--words", &words]);
+    assert_eq!((ran.status, ran.out.as_str()), (1, ""));
+    assert!(ran.err.ends_with("refusal 7: a response wants 3 words, and it has 2 left\n"), "{}", ran.err);
+}
+
+/// A challenge that is missing or empty is no blank response, and a picture is of blank ones alone.
+#[test]
+fn a_blank_response_is_asked_for() {
+    let ([key, challenge], empty) = (key_and_challenge("asked"), file("asked-empty", ""));
+    for with in [
+        &["--key", &key][..],
+        &["--picture"],
+        &["--picture", "--key", &key, "--challenge", &challenge],
+        &["--blank", "--key", &key, "--challenge", &challenge],
+        &["--blank", "--challenge", &empty],
+    ] {
+        let ran = run(&[&["respond", "--degree", "4"], with].concat());
+        assert_eq!((ran.status, ran.out.as_str()), (2, ""), "{with:?}: {}", ran.err);
+    }
+    let with = ["respond", "--degree", "4", "--key", &key, "--challenge", &empty];
+    fails(&with, 1, &format!("{empty}: there is no number in it"));
+}
+
+#[test]
+fn a_blank_response_can_be_looked_at() {
+    let words = file("looked-at-words", lines(&rejected_and_accepted()));
+    let ran = run(&["respond", "--blank", "--picture", "--degree", "4", "--limit", "8", "--words", &words]);
+    assert_eq!(ran.status, 0);
+    assert_eq!(ran.out.lines().count(), 24, "{}", ran.out);
+    let middle = ran.out.lines().find(|line| line.contains("-32 to 32")).unwrap();
+    assert_eq!(middle.split_whitespace().nth(3), Some("8"), "all samples are there: {middle}");
+    assert!(ran.out.ends_with("\ndeviation  1.0, where 215 is expected, give or take 53.8\n"), "{}", ran.out);
+}
+
+/// The record has both halves and no challenge, and that is said.
+#[test]
+fn a_blank_response_is_stored_without_a_challenge() {
+    let (words, record) = (file("stored-blank-words", lines(&rejected_and_accepted())), path("stored-blank"));
+    let with = ["respond", "--blank", "--degree", "4", "--limit", "8", "--words", &words, "--record"];
+    let ran = run(&[&with[..], &[&record]].concat());
+    assert_eq!((ran.status, ran.out), (0, lines(&[-1; 8])));
+    assert!(ran.err.ends_with("\nrecord: z1 and z2 alone, since a blank response has no challenge\n"), "{}", ran.err);
+    let half = Some(vec![-1; 4]);
+    let expected = Record { degree: 4, challenge: None, z1: half.clone(), z2: half };
+    assert_eq!(fs::read(&record).unwrap(), expected.to_bytes().unwrap());
+}
+
 #[test]
 fn a_spent_draw_is_a_try_that_fails() {
     let [key, challenge] = key_and_challenge("spent-try");

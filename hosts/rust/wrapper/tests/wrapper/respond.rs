@@ -73,6 +73,54 @@ fn a_value_of_z1_above_its_limit_rejects_a_response() {
     }
 }
 
+/// Responds to nothing by the call for that, over a y of 1 to 8, with this key in every place and this first word.
+fn respond_blank(key: i32, words: [u64; RESPOND_WORDS]) -> (Responded, Vec<i32>, Vec<u32>) {
+    let mut y: Vec<i32> = (1..).take(sample_count(N)).collect();
+    let mut z = vec![5; sample_count(N)];
+    let mut list = vec![9; respond_list_length(N, 0) + 1];
+    let responded = drawn_session().respond_blank(&POLYNOMIAL, &words, &[key; 8], &mut y, &mut z, &mut list);
+    let zeroed = if responded.answer.is_ok() { vec![0; 8] } else { (1..9).collect() };
+    assert_eq!(y, zeroed);
+    (responded, z, list)
+}
+
+#[test]
+fn a_blank_response_is_the_noise() {
+    for (key, word_0) in [(0, 0), (7, 0), (7, 1), (-7, u64::MAX)] {
+        let (responded, z, list) = respond_blank(key, [word_0, 0, u64::MAX]);
+        assert_eq!(responded.answer, Ok(Outcome { bit: true, entries: 47 }));
+        assert!(!responded.session.is_drawn());
+        assert_eq!(z, [1, 2, 3, 4, 5, 6, 7, 8]);
+        let polynomial: Vec<u32> = (0..21).rev().map(|place| (4 << 24) + place).collect();
+        let words: Vec<u32> = (0..3).map(|place| (2 << 24) + place).collect();
+        assert_eq!(list, [&[(7 << 24) + 4], &words[..], &polynomial, &polynomial, &[(9 << 24) + 1, 9]].concat());
+        assert_eq!(responded.answer.unwrap().check(N, 0, &list), Ok(()));
+    }
+    let (rejected, z, _) = respond_blank(7, [0, u64::MAX, 0]);
+    assert_eq!((rejected.answer, z), (Ok(Outcome { bit: false, entries: 47 }), vec![0; 8]));
+    let (refused, z, list) = respond_blank(8, [0; 3]);
+    assert_eq!((refused.answer, z, list), (Err(Refusal::Key), vec![5; 8], vec![9; 48]));
+    assert!(refused.session.is_drawn());
+}
+
+/// A hash that failed must not become a blank response: an empty challenge is refused where a wrong one is, and not before.
+#[test]
+fn an_empty_challenge_is_no_blank_response() {
+    let (refused, z, list) = respond(drawn_session(), &[], &[0; 8]);
+    assert_eq!(refused.answer, Err(Refusal::Challenge));
+    assert!(refused.session.is_drawn());
+    assert_eq!((z, list), (vec![5; 8], vec![9; 47]));
+    let mut damaged = POLYNOMIAL;
+    damaged[0] = 0;
+    let refusal = |polynomial: &[u64], key: &[i32]| {
+        let (mut y, mut z) = ([2816; 8], [5; 8]);
+        drawn_session().respond(&[], polynomial, &[], key, &mut y, &mut z, &mut []).answer.unwrap_err()
+    };
+    assert_eq!(refusal(&POLYNOMIAL, &[8; 8]), Refusal::Challenge);
+    assert_eq!(refusal(&damaged, &[8; 8]), Refusal::Polynomial);
+    assert_eq!(refusal(&damaged, &[8; 7]), Refusal::Lengths);
+}
+
 #[test]
 fn a_response_after_a_spent_draw_is_refused() {
     let (spent, ..) = draw(drawn_session(), u64::MAX);

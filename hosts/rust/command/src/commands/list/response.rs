@@ -1,4 +1,5 @@
-//! The read list of a response: the key values that the product reads, three words, the polynomial table twice, and the bit.
+//! The read list of a response: the key values that the product reads, none where it is blank, three words, the polynomial table
+//! twice, and the bit.
 
 use bliss_box::{challenge_limit, Entry, Kind};
 
@@ -15,9 +16,12 @@ const POSITIONS_A_LINE: usize = 16;
 /// Explains a response of degree `n` from its second entry on.
 pub fn explain(entries: &mut Entries, n: usize) -> Result<(), Failure> {
     let challenge = challenge(entries, n)?;
-    if challenge.is_empty() {
+    let word = Entry::new(Kind::Word, 0);
+    if challenge.is_empty() && entries.next()? != Some(word) {
         let [first, last] = [0, n - 1].map(|place| Entry::new(Kind::Key, place));
-        return Err(entries.unexpected(format_args!("a key value of s1, {first} to {last},")));
+        return Err(
+            entries.unexpected(format_args!("a key value of s1, {first} to {last}, or {word}, word 0 of a blank response,"))
+        );
     }
     for output in 0..2 * n {
         take_key_values(entries, n, output, &challenge)?;
@@ -28,7 +32,10 @@ pub fn explain(entries: &mut Entries, n: usize) -> Result<(), Failure> {
     entries.take_polynomial("e(N1)")?;
     entries.take_polynomial("e(N2)")?;
     let end = take_bit(entries)?;
-    entries.say(&format!("The response of degree {n} is {end}. Challenge:\n{}", positions(&challenge)));
+    entries.say(&match challenge[..] {
+        [] => format!("The blank response of degree {n} is {end}. The challenge is empty.\n"),
+        _ => format!("The response of degree {n} is {end}. Challenge:\n{}", positions(&challenge)),
+    });
     Ok(())
 }
 

@@ -36,14 +36,15 @@ fn drawn(bits: &str) -> Vec<u32> {
     }
 }
 
-/// The read list of a response with words of 0, which is accepted, at degree `n`.
+/// The read list of a response with words of 0, which is accepted, at degree `n`. It is blank where the challenge is empty.
 fn responded(n: usize, challenge: &[u32]) -> Vec<u32> {
-    match draw(n, &"1".repeat(2 * n)) {
-        OwnedDraw::Full(noise) => {
-            noise.respond(challenge, &POLYNOMIAL, Secret::zeroed(RESPOND_WORDS), &vec![0; 2 * n]).unwrap().list
-        }
-        OwnedDraw::Spent(_) => unreachable!("every attempt is accepted"),
-    }
+    let OwnedDraw::Full(noise) = draw(n, &"1".repeat(2 * n)) else { unreachable!("every attempt is accepted") };
+    let (words, key) = (Secret::zeroed(RESPOND_WORDS), vec![0; 2 * n]);
+    let responded = match challenge {
+        [] => noise.respond_blank(&POLYNOMIAL, words, &key),
+        _ => noise.respond(challenge, &POLYNOMIAL, words, &key),
+    };
+    responded.unwrap().list
 }
 
 /// A session's list: a full draw, and a response.
@@ -89,8 +90,20 @@ fn told_challenge(n: usize, challenge: &[u32]) {
 }
 
 #[test]
+fn a_blank_response_has_no_challenge() {
+    for n in [4, 8, 1024] {
+        let text = explanation(&responded(n, &[])).unwrap();
+        assert_eq!(text.lines().count(), 48, "{text}");
+        let end = format!("The blank response of degree {n} is accepted. The challenge is empty.\n");
+        assert!(text.ends_with(&end), "{text}");
+        let rejected = [&responded(n, &[])[..46], &[9 << 24]].concat();
+        assert!(explanation(&rejected).unwrap().ends_with(&end.replace("accepted", "rejected")));
+    }
+}
+
+#[test]
 fn every_entry_is_explained() {
-    let list = session();
+    let list = [session(), drawn("11111111"), responded(4, &[])].concat();
     let text = explanation(&list).unwrap();
     for (number, entry) in (1..).zip(&list) {
         let start = format!("{number:>7}  ({}, {}) ", entry >> 24, entry & 0xff_ffff);
@@ -100,19 +113,27 @@ fn every_entry_is_explained() {
 
 #[test]
 fn sessions_are_explained_call_by_call() {
-    let list = [session(), drawn("00000000"), session(), drawn("11111111"), drawn("11111111")].concat();
+    let ones = || drawn("11111111");
+    let list = [session(), drawn("00000000"), session(), ones(), ones(), responded(4, &[]), ones()].concat();
     let told: Vec<String> =
         explanation(&list).unwrap().lines().filter(|line| line.starts_with("The ")).map(str::to_owned).collect();
     let draw = |end, attempts| format!("The draw of degree 4 is {end} after {attempts} attempts. Accept bits:");
     let response = || String::from("The response of degree 4 is accepted. Challenge:");
     let full = || draw("full", 10);
-    assert_eq!(told, [full(), response(), draw("spent", 8), full(), response(), draw("full", 8), draw("full", 8)]);
+    let (ones, blank) = (|| draw("full", 8), "The blank response of degree 4 is accepted. The challenge is empty.".to_owned());
+    assert_eq!(told, [full(), response(), draw("spent", 8), full(), response(), ones(), ones(), blank, ones()]);
 }
 
 #[test]
 fn damaged_lists_are_errors() {
-    let list = session();
-    let draw = drawn("1101101111").len();
+    let draw = drawn("1101101111");
+    for response in [responded(4, &[0, 3]), responded(4, &[])] {
+        damage_is_found(&[&draw[..], &response].concat(), draw.len());
+    }
+}
+
+/// In the list of a draw of this length, and of a response after it.
+fn damage_is_found(list: &[u32], draw: usize) {
     for i in 0..list.len() {
         let (before, after) = (&list[..i], &list[i + 1..]);
         assert!(explanation(&[before, after].concat()).is_err(), "entry {i} is missing");
@@ -155,7 +176,10 @@ fn errors_say_what_is_there_and_what_is_expected() {
         changed(&draw, 369, (6, 9)),
         "entry 370 is (6, 9), where (6, 7) or (6, 8), the samples accepted so far, is expected"
     );
-    assert_eq!(changed(&response, 1, (8, 4)), "entry 2 is (8, 4), where a key value of s1, (8, 0) to (8, 3), is expected");
+    let key_or_word = "where a key value of s1, (8, 0) to (8, 3), or (2, 0), word 0 of a blank response, is expected";
+    assert_eq!(changed(&response, 1, (8, 4)), format!("entry 2 is (8, 4), {key_or_word}"));
+    assert_eq!(changed(&responded(4, &[]), 1, (2, 1)), format!("entry 2 is (2, 1), {key_or_word}"));
+    assert_eq!(changed(&response, 1, (2, 0)), "entry 3 is (8, 0), where (2, 1), word 1: compared with e(N1), is expected");
     assert_eq!(
         changed(&response, 2, (8, 3)),
         "entry 3 is (8, 3), where (8, 0), key value 0 of s1: output 1, position 1, is expected"

@@ -22,6 +22,20 @@ fn an_owned_response_is_the_lent_one() {
 }
 
 #[test]
+fn an_owned_blank_response_is_the_noise() {
+    for (words, bit) in [([1, 0, 0], true), ([0, u64::MAX, 0], false)] {
+        let blank = noise().respond_blank(&POLYNOMIAL, Secret::from(words.to_vec()), &KEY).unwrap();
+        assert_eq!(blank.z, bit.then(|| noise().samples().to_vec()));
+        assert_eq!(blank.list.len(), respond_list_length(N, 0));
+        assert!(!blank.session.is_drawn());
+    }
+    match noise().respond_blank(&POLYNOMIAL, Secret::zeroed(RESPOND_WORDS), &[8; sample_count(N)]) {
+        Err(CallError::Refused(Refusal::Key, unused)) => assert_eq!(unused.samples(), noise().samples()),
+        other => panic!("{other:?}"),
+    }
+}
+
+#[test]
 fn a_refused_response_hands_the_noise_back() {
     let respond = |noise: Noise, challenge: &[u32]| noise.respond(challenge, &POLYNOMIAL, Secret::zeroed(RESPOND_WORDS), &KEY);
     let expected = respond(noise(), &[0, 3]).unwrap().z;

@@ -17,8 +17,11 @@ const COLUMNS: f64 = 56.0;
 /// The units in 1.
 const ONE: f64 = (1u64 << 62) as f64;
 
-/// The counts of samples, range by range.
-pub struct Picture([usize; RANGES]);
+/// What is shown of samples: their counts, range by range, and their sum of squares.
+pub struct Picture {
+    counts: [usize; RANGES],
+    squares: f64,
+}
 
 impl Picture {
     pub fn of(samples: &[i32]) -> Picture {
@@ -26,15 +29,26 @@ impl Picture {
         for sample in samples {
             counts[range_of(*sample)] += 1;
         }
-        Picture(counts)
+        Picture { counts, squares: samples.iter().map(|sample| f64::from(*sample).powi(2)).sum() }
+    }
+
+    fn samples(&self) -> usize {
+        self.counts.iter().sum()
+    }
+
+    /// The root of the mean square, beside the one that is expected.
+    pub fn deviation(&self) -> String {
+        let samples = self.samples() as f64;
+        let (found, give_or_take) = ((self.squares / samples).sqrt(), 215.0 / (2.0 * samples).sqrt());
+        format!("{found:.1}, where 215 is expected, give or take {give_or_take:.1}")
     }
 
     /// A line for each range: its ends, its count, the expected count, and both as a bar and a mark.
     pub fn text(&self) -> String {
-        let expected = expected(self.0.iter().sum());
-        let longest = expected.iter().copied().chain(self.0.iter().map(|count| *count as f64)).fold(0.0, f64::max);
+        let expected = expected(self.samples());
+        let longest = expected.iter().copied().chain(self.counts.iter().map(|count| *count as f64)).fold(0.0, f64::max);
         let mut text = String::from("         samples   drawn  expected\n");
-        for (range, (drawn, expected)) in self.0.iter().zip(expected).enumerate() {
+        for (range, (drawn, expected)) in self.counts.iter().zip(expected).enumerate() {
             let bar = bar(*drawn as f64 / longest, expected / longest);
             text += &format!("{:>16}  {drawn:>6}  {expected:>8.1}  {bar}\n", name(range));
         }

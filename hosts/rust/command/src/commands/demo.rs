@@ -1,7 +1,5 @@
 //! `bliss-box demo`: a draw and a response with a toy key, and a picture of the noise.
 
-mod picture;
-
 use std::time::{Duration, Instant};
 
 use bliss_box::{draw_limit, draw_word_count, sample_count, Counts, Entry, Kind, Noise, OwnedDraw, OwnedResponse, Session};
@@ -11,8 +9,8 @@ use clap::Args;
 use crate::drawing::Degree;
 use crate::ending::{Failure, Status};
 use crate::output;
+use crate::picture::Picture;
 use crate::words::Words;
-use picture::Picture;
 
 /// Draws and responds with a toy key, and shows a picture of the noise.
 ///
@@ -46,7 +44,6 @@ const VALUES: usize = 8;
 struct Shown {
     counts: Counts,
     picture: Picture,
-    deviation: f64,
     draw_time: Duration,
     z: Vec<i32>,
     respond_time: Duration,
@@ -78,11 +75,11 @@ fn try_once(session: Session, number: usize) -> Result<(Session, Option<Shown>),
         OwnedDraw::Spent(spent) => return Ok((spent.session, None)),
     };
     // The response wipes the noise, so what is shown of it is worked out before.
-    let (counts, picture, deviation) = (noise.counts(), Picture::of(noise.samples()), deviation(noise.samples()));
+    let (counts, picture) = (noise.counts(), Picture::of(noise.samples()));
     let draw_list = noise.list().to_vec();
     let (responded, respond_time) = timed_response(noise, number)?;
     let list = [draw_list, responded.list].concat();
-    let shown = responded.z.map(|z| Shown { counts, picture, deviation, draw_time, z, respond_time, list });
+    let shown = responded.z.map(|z| Shown { counts, picture, draw_time, z, respond_time, list });
     Ok((responded.session, shown))
 }
 
@@ -116,12 +113,6 @@ fn toy_challenge(n: usize, number: usize) -> Vec<u32> {
     (0..POSITIONS.min(n)).map(|i| (i * step + number % step) as u32).collect()
 }
 
-/// The root of the mean square.
-fn deviation(samples: &[i32]) -> f64 {
-    let squares: f64 = samples.iter().map(|sample| f64::from(*sample).powi(2)).sum();
-    (squares / samples.len() as f64).sqrt()
-}
-
 fn shown_time(time: Duration) -> String {
     format!("{:.3} ms", 1000.0 * time.as_secs_f64())
 }
@@ -130,7 +121,6 @@ impl Shown {
     fn text(&self, n: usize, tries: usize) -> String {
         let Counts { attempts, accepted, entries: _ } = self.counts;
         let (limit, positions) = (draw_limit(n), POSITIONS.min(n));
-        let give_or_take = 215.0 / (2.0 * accepted as f64).sqrt();
         let values: Vec<String> = self.z.iter().take(VALUES).map(i32::to_string).collect();
         let lines = [
             INTRODUCTION.into(),
@@ -140,7 +130,7 @@ impl Shown {
                 "draw       full: {accepted} samples in {attempts} of at most {limit} attempts, {}",
                 shown_time(self.draw_time)
             ),
-            format!("deviation  {:.1}, where 215 is expected, give or take {give_or_take:.1}", self.deviation),
+            format!("deviation  {}", self.picture.deviation()),
             format!("response   accepted at try {tries} (about 61 of 100 tries are), {}", shown_time(self.respond_time)),
             format!("           a toy key, and a challenge of {positions} positions"),
             format!("           {}, ..", values.join(", ")),
