@@ -47,7 +47,7 @@ const LEAST_PAIRS: u64 = 32_000;
 
 type Part = (&'static str, fn(&Comparison));
 
-const PARTS: [Part; 28] = [
+const PARTS: [Part; 29] = [
     ("guards", lent::guards_notice_every_change),
     ("openings", openings_are_the_models),
     ("filled parts", filled_parts_are_the_models),
@@ -59,6 +59,7 @@ const PARTS: [Part; 28] = [
     ("responses at their limits", responses::the_limits_of_a_response_are_the_models),
     ("responses at the limits of z1", responses::the_limits_of_z1_are_the_models),
     ("responses of the greatest sums", responses::the_greatest_sums_are_the_models),
+    ("blank responses by hand", responses::blank_responses_by_hand_are_the_models),
     ("key checks of small degrees", key_checks::small_key_checks_are_the_models),
     ("key checks of large degrees", key_checks::large_key_checks_are_the_models),
     ("key checks spoilt in one place", key_checks::each_check_alone_is_the_models),

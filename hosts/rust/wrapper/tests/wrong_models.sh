@@ -1,7 +1,7 @@
 #!/bin/sh
 # Shows that the comparison of calls with the model is no empty one: the model is made wrong in one place at a time, in a scratch
 # copy of the Rust hosts, and the comparison must fail. Each line says in what the wrong model was noticed to differ from the
-# archive. It takes about nine minutes.
+# archive. It takes ten to fourteen minutes.
 #
 # usage: hosts/rust/wrapper/tests/wrong_models.sh
 set -eu
@@ -79,12 +79,17 @@ wrong_by_padding() {
          padded.words.push(0);
          let call = &padded;
          let refusal = refusal_of_$1(call);"
-    wrong 'one entry too few is served' "let refusal = refusal_of_$1(call);" \
-        "let refusal = refusal_of_$1(call);
+    wrong_by_padded_list 'one entry too few is served' "$1" true
+}
+
+# wrong_by_padded_list NAME CALL WHERE: one that serves a call whose list is one entry short.
+wrong_by_padded_list() {
+    wrong "$1" "let refusal = refusal_of_$2(call);" \
+        "let refusal = refusal_of_$2(call);
          let mut padded = call.clone();
          padded.list.push(0);
-         if refusal == 8 && refusal_of_$1(&padded) != 8 {
-             let mut after = $1(&padded);
+         if $3 && refusal == 8 && refusal_of_$2(&padded) != 8 {
+             let mut after = $2(&padded);
              after.list.pop();
              return after;
          }"
@@ -94,6 +99,29 @@ wrong_by_padding() {
 wrong_z1() {
     wrong "$1" 'let bit = response.bit();' \
         "let bit = response.tests()[..4] == [true; 4] && (0..n).all(|i| $2.abs() <= COEFFICIENT_LIMIT);"
+}
+
+# Whether a respond call is one for a blank response.
+blank='call.challenge.is_empty()'
+
+# wrong_blank NAME CHANGE: one that changes `response` or `bit` where the response is blank.
+wrong_blank() {
+    wrong "$1" 'let bit = response.bit();' "let (mut response, mut bit) = (response.clone(), response.bit());
+     if $blank { $2 }"
+}
+
+# wrong_blank_list NAME CHANGE: one that changes `entries` where the response is blank.
+wrong_blank_list() {
+    wrong "$1" 'let entries = entries_of(n, &call.challenge, bit);' "let mut entries = entries_of(n, &call.challenge, bit);
+     if $blank { $2 }"
+}
+
+# wrong_blank_call NAME CHANGE: one that changes what a blank response is lent for reading.
+wrong_blank_call() {
+    wrong "$1" 'let refusal = refusal_of_respond(call);' "let mut changed = call.clone();
+     if $blank { $2 }
+     let call = &changed;
+     let refusal = refusal_of_respond(call);"
 }
 
 # wrong_refusal NAME CHANGE: one that changes `refusal`, that of the fields of a record to be written.
@@ -289,6 +317,44 @@ wrong 'the last entry is missing where z1 rejects' 'let entries = entries_of(n, 
      if $by_z1 { entries.pop(); }"
 wrong 'kind 9 has 1 where z1 rejects' 'entries_of(n, &call.challenge, bit)' "entries_of(n, &call.challenge, bit || $by_z1)"
 
+# Document 02's blank response
+wrong 'an empty challenge is refused' 'challenge.len() > 64' 'challenge.is_empty() || challenge.len() > 64'
+wrong 'an empty challenge is position 0' 'product(&call.key, &call.challenge)' \
+    "product(&call.key, if $blank { &[0] } else { &call.challenge[..] })"
+wrong_blank 'blank, the key in z' 'response.z.iter_mut().zip(&call.key).for_each(|(z, &key)| *z += i128::from(key));'
+wrong_blank 'blank, the key in the bit' \
+    'bit = Response::of(&call.y, &product(&call.key, &[0]), [call.words[0], call.words[1], call.words[2]]).bit();'
+wrong_blank "blank, A of the key's squares" \
+    'response.product_squares = call.key.iter().map(|&key| u128::from(key.unsigned_abs().pow(2))).sum();
+     bit = response.bit();'
+wrong_blank 'blank, z is -y where g is 1' 'if response.minus { response.z.iter_mut().for_each(|z| *z = -*z); }'
+wrong_blank 'blank, every response is accepted' 'bit = true;'
+wrong_blank 'blank, every response is rejected' 'bit = false;'
+wrong_blank 'blank, word 1 alone is tested' 'bit = response.tests()[2];'
+wrong_blank 'blank, Z is not tested' 'response.response_squares = 0; bit = response.bit();'
+wrong_blank 'blank, N1 = 0, by which every word 1 passes' 'response.e1 = ONE; bit = response.bit();'
+wrong_blank 'blank, z1 is not tested' 'bit = response.tests()[..4] == [true; 4];'
+wrong_blank 'blank, z2 is tested too' 'bit &= response.z.iter().all(|z| z.abs() <= COEFFICIENT_LIMIT);'
+wrong_blank 'blank, word 2 is tested by e(46,225)' 'bit &= response.tested2 < response.e1;'
+wrong 'blank, z is kept on bit 0' 'z: if bit {' "z: if bit || $blank {"
+wrong 'blank, y is kept' 'y: vec![0; 2 * n],' "y: if $blank { call.y.clone() } else { vec![0; 2 * n] },"
+wrong 'blank, drawn is kept' 'Session { degree: n, drawn: false }' "Session { degree: n, drawn: $blank }"
+wrong_blank_list 'blank, an entry of kind 8 where the list has room' \
+    'if call.list.len() > entries.len() { entries.insert(1, entry(8, 0)); }'
+wrong_blank_list 'blank, an entry of kind 8 for word 0, which decides nothing' 'entries[1] = entry(8, 0);'
+wrong_blank_list 'blank, word 0 is not listed' 'entries.remove(1);'
+wrong_blank_list 'blank, the polynomial table is listed once' 'entries.drain(4..25);'
+wrong_blank_list 'blank, the last entry is missing' 'entries.pop();'
+wrong 'blank, a list for one position is asked for' '2 * positions' '2 * positions.max(1)'
+wrong 'blank, 48 entries are asked for' 'saturating_add(47)' 'saturating_add(47 + usize::from(positions == 0))'
+wrong_by_padded_list 'blank, 46 entries are enough' respond "$blank"
+wrong_blank_call 'blank, a key of any length is served' 'changed.key.resize(call.y.len(), 0);'
+wrong_blank_call 'blank, two words are enough' 'changed.words.push(0);'
+wrong 'blank, any polynomial table is served' 'call.polynomial != POLYNOMIAL' "!$blank && call.polynomial != POLYNOMIAL"
+wrong 'blank, nothing drawn is served' '!call.session.drawn' "!$blank && !call.session.drawn"
+wrong 'blank, any key values are served' 'call.key.iter().any' "!$blank && call.key.iter().any"
+wrong 'blank, any values of y are served' 'call.y.iter().any' "!$blank && call.y.iter().any"
+
 # Read list of a response
 wrong 'words before the key' 'entries.push(entry(2, place));' 'entries.insert(1 + place, entry(2, place));'
 wrong 'positions before outputs' 'for i in 0..n {
@@ -308,7 +374,6 @@ wrong 'kind 9 has 1 always' 'entry(9, usize::from(bit))' 'entry(9, usize::from(b
 # Refusals of a response
 wrong 'a longer key is served' 'call.key.len() != 2 * n' 'call.key.len() < 2 * n'
 wrong 'z of any length' ' || call.z.len() != 2 * n' ''
-wrong 'an empty challenge is served' 'challenge.is_empty() || ' ''
 wrong 'a challenge of 65 positions is served' 'challenge.len() > 64' 'challenge.len() > 65'
 wrong 'a challenge of 64 positions is refused' 'challenge.len() > 64' 'challenge.len() > 63'
 wrong 'a challenge of n positions is refused' 'challenge.len() > n' 'challenge.len() >= n'

@@ -59,7 +59,7 @@ fn any<C>(
     (call, reasons)
 }
 
-/// How many positions a right challenge has: one, as many as may be, or any number between.
+/// How many positions a challenge that is not empty has: one, as many as may be, or any number between.
 fn positions(random: &mut Random, degree: usize) -> usize {
     let most = degree.min(64);
     match random.below(6) {
@@ -118,13 +118,13 @@ fn spoil_polynomial(random: &mut Random, polynomial: &mut [u64]) {
     };
 }
 
-/// A challenge that is refused at this degree.
-fn spoil_challenge(random: &mut Random, degree: usize, challenge: &mut Vec<u32>) {
+/// A challenge of one position or more that is refused at this degree.
+fn spoil_positions(random: &mut Random, degree: usize, challenge: &mut Vec<u32>) {
     let degree = degree as u32;
-    match (random.below(6), challenge.last().copied()) {
-        (1, Some(_)) => *challenge.last_mut().unwrap() = random.pick(&[degree, degree, degree + 1, 1 << 16, 1 << 31, u32::MAX]),
+    match (random.below(5), challenge.last().copied()) {
+        (0, Some(_)) => *challenge.last_mut().unwrap() = random.pick(&[degree, degree, degree + 1, 1 << 16, 1 << 31, u32::MAX]),
         // Two positions are equal.
-        (2, Some(last)) => {
+        (1, Some(last)) => {
             let place = random.below(challenge.len());
             let twice = challenge[place];
             challenge.insert(place, twice);
@@ -133,13 +133,12 @@ fn spoil_challenge(random: &mut Random, degree: usize, challenge: &mut Vec<u32>)
             }
         }
         // One falls.
-        (3, Some(_)) if challenge.len() > 1 => {
+        (2, Some(_)) if challenge.len() > 1 => {
             let place = 1 + random.below(challenge.len() - 1);
             challenge.swap(place - 1, place);
         }
         // One too many, all of them ascending.
-        (4 | 5, _) => *challenge = (0..=degree.min(64)).collect(),
-        _ => challenge.clear(),
+        _ => *challenge = (0..=degree.min(64)).collect(),
     }
 }
 

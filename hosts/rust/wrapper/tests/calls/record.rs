@@ -1,7 +1,7 @@
 //! Records that are written and read.
 
-use super::respond::challenge;
-use super::{either_sign, shorten, spoil_values, within, wrong_length, FORGED_DEGREES};
+use super::respond::challenge_of;
+use super::{either_sign, positions, shorten, spoil_positions, spoil_values, within, wrong_length, FORGED_DEGREES};
 use crate::model::record::{write, FieldSet, Read, Write, VALUE_LIMIT};
 use crate::random::Random;
 
@@ -29,6 +29,12 @@ pub fn field_set_of(random: &mut Random, degree: usize, map: usize) -> FieldSet 
         z1: (map & 2 != 0).then(|| z(random, degree)),
         z2: (map & 4 != 0).then(|| z(random, degree)),
     }
+}
+
+/// A right challenge, which is not empty.
+fn challenge(random: &mut Random, degree: usize) -> Vec<u32> {
+    let length = positions(random, degree);
+    challenge_of(random, degree, length)
 }
 
 /// The bits of the pad in the record of these fields.
@@ -96,7 +102,8 @@ fn spoil_write(random: &mut Random, call: &mut Write, refusal: u32) -> bool {
     match refusal {
         1 => call.n = random.pick(&FORGED_DEGREES),
         2 => return spoil_z(random, call, |random, z| z.resize(wrong_length(random, z.len().max(1)), 1)),
-        6 if call.told[0] => super::spoil_challenge(random, call.n, &mut call.challenge),
+        6 if call.told[0] && random.one_in(5) => call.challenge.clear(),
+        6 if call.told[0] => spoil_positions(random, call.n, &mut call.challenge),
         6 => return false,
         14 => {
             let written = write(call);

@@ -1,6 +1,6 @@
 //! Respond calls.
 
-use super::{either_sign, positions, shorten, spoil_polynomial, spoil_values, top_bits, within, wrong_length};
+use super::{either_sign, positions, shorten, spoil_polynomial, spoil_positions, spoil_values, top_bits, within, wrong_length};
 use super::{BOUND, FORGED_DEGREES};
 use crate::model::respond::{
     list_asked, product, Call, Response, COEFFICIENT_LIMIT, PRODUCT_LIMIT, RESPONSE_LIMIT, WORDS_ASKED,
@@ -66,9 +66,9 @@ fn assembled(random: &mut Random, degree: usize, challenge: Vec<u32>, key: Vec<i
     }
 }
 
-/// A right challenge.
+/// A right challenge: once in eight an empty one, for a blank response.
 pub fn challenge(random: &mut Random, degree: usize) -> Vec<u32> {
-    let length = positions(random, degree);
+    let length = if random.one_in(8) { 0 } else { positions(random, degree) };
     challenge_of(random, degree, length)
 }
 
@@ -297,7 +297,7 @@ pub fn spoil(random: &mut Random, call: &mut Call, refusal: u32) -> bool {
         1 => call.session.degree = random.pick(&FORGED_DEGREES),
         2 => spoil_lengths(random, call),
         4 => spoil_polynomial(random, &mut call.polynomial),
-        6 => spoil_challenge(random, call),
+        6 => return spoil_challenge(random, call),
         7 => return shorten(random, &mut call.words, WORDS_ASKED),
         8 => return shorten(random, &mut call.list, list_asked(call.session.degree, call.challenge.len())),
         9 => call.session.drawn = false,
@@ -321,9 +321,13 @@ fn spoil_lengths(random: &mut Random, call: &mut Call) {
     }
 }
 
-/// A challenge that is refused, and a list that is long enough for it.
-fn spoil_challenge(random: &mut Random, call: &mut Call) {
-    super::spoil_challenge(random, call.session.degree, &mut call.challenge);
+/// A challenge that is refused, and a list that is long enough for it. One that is empty stays, and so does a blank response.
+fn spoil_challenge(random: &mut Random, call: &mut Call) -> bool {
+    if call.challenge.is_empty() {
+        return false;
+    }
+    spoil_positions(random, call.session.degree, &mut call.challenge);
     let least = list_asked(call.session.degree, call.challenge.len());
     call.list.resize(least.max(call.list.len()), 0);
+    true
 }

@@ -14,6 +14,7 @@ pub struct Comparison {
     openings: AtomicU64,
     draws: AtomicU64,
     responds: AtomicU64,
+    blank_responses: AtomicU64,
     filled: AtomicU64,
     exponentials: AtomicU64,
     key_checks: AtomicU64,
@@ -74,6 +75,8 @@ impl Comparison {
         same(origin, "the list", &given.list, &expected.list);
         self.filled(origin, &given.list, given.answer.entries);
         self.responds.fetch_add(1, Relaxed);
+        let blank = call.challenge.is_empty() && expected.response.is_some();
+        self.blank_responses.fetch_add(u64::from(blank), Relaxed);
         expected
     }
 
@@ -170,7 +173,7 @@ impl Display for Comparison {
     fn fmt(&self, f: &mut Formatter<'_>) -> fmt::Result {
         let count = |counter: &AtomicU64| counter.load(Relaxed);
         write!(f, "{} draws and {} respond calls", count(&self.draws), count(&self.responds))?;
-        write!(f, " ({} lists of calls among them)", count(&self.lists))?;
+        write!(f, " ({} blank responses and {} lists of calls among them)", count(&self.blank_responses), count(&self.lists))?;
         write!(f, ", {} openings, {} filled parts", count(&self.openings), count(&self.filled))?;
         write!(f, ", {} exponentials, {} key checks", count(&self.exponentials), count(&self.key_checks))?;
         write!(f, ", {} records written and {} read", count(&self.records_written), count(&self.records_read))?;

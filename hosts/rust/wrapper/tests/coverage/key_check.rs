@@ -21,7 +21,7 @@ impl Coverage {
             self.count_table_sums(call, sums);
         }
         if refusal == 2 {
-            self.count_wrong_keys(call);
+            self.count_wrong_key(call.n, &call.key);
         }
         if refusal == 6 {
             self.count_wrong_lengths(call);
@@ -65,9 +65,10 @@ impl Coverage {
         self.see("row 0 is not summed", rows[0] < last_row.value);
     }
 
-    fn count_wrong_keys(&mut self, call: &Call) {
-        for (case, length) in [("no", 0), ("n", call.n), ("2n - 1", 2 * call.n - 1), ("2n + 1", 2 * call.n + 1)] {
-            self.see(format!("refusal 2, {case} values"), call.key.len() == length);
+    /// Counts a key that has not 2n values.
+    pub fn count_wrong_key(&mut self, n: usize, key: &[i32]) {
+        for (case, length) in [("no", 0), ("n", n), ("2n - 1", 2 * n - 1), ("2n + 1", 2 * n + 1)] {
+            self.see(format!("refusal 2, a key of {case} values"), key.len() == length);
         }
     }
 

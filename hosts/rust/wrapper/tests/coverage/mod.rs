@@ -1,5 +1,6 @@
 //! What a run of comparisons came across, so that a run that missed a case fails.
 
+mod blank;
 mod draw;
 mod key_check;
 mod record;
@@ -11,11 +12,12 @@ use crate::calls::{self, DEGREES};
 use crate::model::Session;
 use crate::run;
 
+pub use blank::REFUSALS as BLANK_REFUSALS;
 pub use draw::REFUSALS as DRAW_REFUSALS;
 pub use key_check::REFUSALS as KEY_CHECK_REFUSALS;
 pub use record::{of_map, of_pad, READ_REFUSALS, WRITE_REFUSALS};
 pub use respond::REFUSALS as RESPOND_REFUSALS;
-pub use respond::{BY_A, BY_COSH, BY_Z, BY_Z1};
+pub use respond::{ACCEPTED, BY_A, BY_COSH, BY_WORD_1, BY_Z, BY_Z1};
 
 /// The top two bits of a word, which 62 of the word leaves out.
 const TOP_BITS: [u64; 4] = [0, 1, 2, 3];
@@ -36,6 +38,13 @@ impl Coverage {
         self.count(case, usize::from(met));
     }
 
+    /// Counts a case that is to be met with each pair of top bits of a word.
+    fn see_by_top_bits(&mut self, case: &str, word: u64, met: bool) {
+        for top in TOP_BITS {
+            self.see(format!("{case}, top bits {top:02b}"), met && word >> 62 == top);
+        }
+    }
+
     /// Counts what every call has.
     fn count_call(&mut self, session: Session, refusal: u32) {
         self.count("calls", 1);
@@ -53,7 +62,7 @@ impl Coverage {
         self.see(format!("{what}: one less than asked for, {}", refused(fewer)), refusal == fewer && lent + 1 == asked);
     }
 
-    /// Counts a challenge that is served.
+    /// Counts a challenge that is served, and is not empty.
     fn count_challenge(&mut self, n: usize, challenge: &[u32]) {
         let positions = challenge.len();
         self.see("one position", positions == 1);
@@ -63,11 +72,10 @@ impl Coverage {
         self.see("position n - 1", challenge[positions - 1] as usize == n - 1);
     }
 
-    /// Counts what refuses a challenge.
+    /// Counts what refuses a challenge, but for its being empty.
     fn count_wrong_challenge(&mut self, n: usize, challenge: &[u32]) {
         let ascends = challenge.windows(2).all(|pair| pair[0] < pair[1]);
         let below_n = challenge.iter().all(|&position| (position as usize) < n);
-        self.see("refusal 6, empty", challenge.is_empty());
         self.see("refusal 6, 65 positions alone", challenge.len() == 65 && ascends && below_n);
         self.see("refusal 6, n + 1 positions", challenge.len() == n + 1);
         let length_is_right = !challenge.is_empty() && challenge.len() <= n.min(64);

@@ -26,6 +26,7 @@ impl Coverage {
             self.count_wrong_halves(call);
         }
         if refusal == 6 {
+            self.see("refusal 6, empty", call.challenge.is_empty());
             self.count_wrong_challenge(call.n, &call.challenge);
         }
         for (name, z) in told_halves(call) {

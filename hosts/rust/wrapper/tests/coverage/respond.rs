@@ -1,13 +1,14 @@
 //! What respond calls came across.
 
-use super::{at_degree, Coverage, TOP_BITS};
+use super::{at_degree, Coverage};
 use crate::calls::respond::{GREATEST_KEY, GREATEST_Y, GREATEST_Z1};
 use crate::model::respond::{list_asked, Call, Responded, Response, PRODUCT_LIMIT, RESPONSE_LIMIT, WORDS_ASKED};
 
 /// The refusals of a respond call.
 pub const REFUSALS: [u32; 9] = [1, 2, 4, 6, 7, 8, 9, 10, 11];
 
-/// The five tests of a response, where one alone fails.
+/// The five tests of a response, where it is accepted, and where one alone fails.
+pub const ACCEPTED: [bool; 5] = [true; 5];
 pub const BY_A: [bool; 5] = [false, true, true, true, true];
 pub const BY_Z: [bool; 5] = [true, false, true, true, true];
 pub const BY_WORD_1: [bool; 5] = [true, true, false, true, true];
@@ -24,13 +25,14 @@ impl Coverage {
         self.count_lent("list entries", call.list.len(), least, refusal, 8);
         if let Some(response) = &responded.response {
             self.count(at_degree(if response.bit() { "accepted" } else { "rejected" }, call.session.degree), 1);
-            self.count_values(call);
-            self.count_sums(call, response);
-            self.count_accepted(call, response);
-            self.count_rejected(response);
-            self.count_accepted_coefficients(call, response);
-            self.count_rejected_coefficients(call, response);
-            self.count_edges_of_words(call, response);
+            if call.challenge.is_empty() {
+                self.count_blank(call, response);
+            } else {
+                self.count_response(call, response);
+            }
+        }
+        if refusal == 2 && call.challenge.is_empty() {
+            self.count_unused_key(call);
         }
         if refusal == 6 {
             self.count_wrong_challenge(call.session.degree, &call.challenge);
@@ -41,6 +43,17 @@ impl Coverage {
         if refusal == 11 {
             self.count_places("refusal 11", &call.y, GREATEST_Y);
         }
+    }
+
+    /// Counts a response to one position or more.
+    fn count_response(&mut self, call: &Call, response: &Response) {
+        self.count_values(call);
+        self.count_sums(call, response);
+        self.count_accepted(call, response);
+        self.count_rejected(response);
+        self.count_accepted_coefficients(call, response);
+        self.count_rejected_coefficients(call, response);
+        self.count_edges_of_words(call, response);
     }
 
     /// The challenge, the key and y at their ends.
@@ -143,15 +156,11 @@ impl Coverage {
     /// Words 1 and 2 on both sides of what decides, with each pair of top bits.
     fn count_edges_of_words(&mut self, call: &Call, r: &Response) {
         let (left, right) = r.cosh_sides();
-        for top in TOP_BITS {
-            let mut see = |word: usize, case: &str, met: bool| {
-                self.see(format!("{case}, top bits {top:02b}"), met && call.words[word] >> 62 == top);
-            };
-            see(1, "accepted, word 1 = e(N1) - 1", r.bit() && r.tested1 + 1 == r.e1);
-            see(1, "rejected by word 1 = e(N1) alone", r.tests() == BY_WORD_1 && r.tested1 == r.e1);
-            see(2, "accepted, the last word 2 to pass", r.bit() && left + r.cosh_factor() >= right);
-            see(2, "rejected by the first word 2 not to pass alone", r.tests() == BY_COSH && left < right + r.cosh_factor());
-        }
+        let mut see = |word: usize, case: &str, met: bool| self.see_by_top_bits(case, call.words[word], met);
+        see(1, "accepted, word 1 = e(N1) - 1", r.bit() && r.tested1 + 1 == r.e1);
+        see(1, "rejected by word 1 = e(N1) alone", r.tests() == BY_WORD_1 && r.tested1 == r.e1);
+        see(2, "accepted, the last word 2 to pass", r.bit() && left + r.cosh_factor() >= right);
+        see(2, "rejected by the first word 2 not to pass alone", r.tests() == BY_COSH && left < right + r.cosh_factor());
     }
 }
 

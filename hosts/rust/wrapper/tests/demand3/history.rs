@@ -21,18 +21,20 @@ pub enum Difference {
     ResponseBit,
     Position,
     PositionMore,
+    FirstPosition,
     Degree,
     Kind,
     CallMore,
 }
 
 /// The differences, and their names.
-pub const DIFFERENCES: [(Difference, &str); 8] = [
+pub const DIFFERENCES: [(Difference, &str); 9] = [
     (Difference::DrawBit, "an accept bit of a draw"),
     (Difference::OrderOfBits, "the order of two accept bits of a draw"),
     (Difference::ResponseBit, "the bit of a response"),
     (Difference::Position, "a position of a challenge"),
     (Difference::PositionMore, "a position more in a challenge"),
+    (Difference::FirstPosition, "a first position in an empty challenge"),
     (Difference::Degree, "the degree"),
     (Difference::Kind, "the kind of a call"),
     (Difference::CallMore, "a call more"),
@@ -111,7 +113,7 @@ fn can_occur(history: &History) -> bool {
 
 fn is_served(challenge: &[u32], degree: usize) -> bool {
     let ascends = challenge.windows(2).all(|pair| pair[0] < pair[1]);
-    ascends && (1..=degree.min(64)).contains(&challenge.len()) && challenge.iter().all(|&c| (c as usize) < degree)
+    ascends && challenge.len() <= degree.min(64) && challenge.iter().all(|&c| (c as usize) < degree)
 }
 
 /// Histories that can occur and differ in one thing each, with its name, as many as are found.
@@ -160,11 +162,13 @@ fn change_bits(random: &mut Random, bits: &mut [bool], difference: Difference) {
 }
 
 fn change_response(random: &mut Random, challenge: &mut Vec<u32>, bit: &mut bool, difference: Difference) {
-    let place = random.below(challenge.len());
-    match difference {
-        Difference::ResponseBit => *bit = !*bit,
-        Difference::Position => challenge[place] ^= 1,
-        Difference::PositionMore => challenge.insert(place + 1, challenge[place] + 1),
+    let place = random.below(challenge.len().max(1));
+    match (difference, challenge.get(place).copied()) {
+        (Difference::ResponseBit, _) => *bit = !*bit,
+        (Difference::Position, Some(position)) => challenge[place] = position ^ 1,
+        (Difference::PositionMore, Some(position)) => challenge.insert(place + 1, position + 1),
+        // Every degree has these.
+        (Difference::FirstPosition, None) => challenge.push(random.below(4) as u32),
         _ => (),
     }
 }

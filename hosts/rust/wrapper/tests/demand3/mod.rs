@@ -105,10 +105,11 @@ fn count_history(coverage: &mut Coverage, history: &History) {
                 coverage.see("full draw", history::accepted(bits) == 2 * degree);
                 coverage.see("spent draw", history::accepted(bits) < 2 * degree);
             }
-            Event::Respond { bit, .. } => {
-                coverage.count(at_degree("response", *degree), 1);
-                coverage.see("accepted response", *bit);
-                coverage.see("rejected response", !*bit);
+            Event::Respond { challenge, bit } => {
+                let response = if challenge.is_empty() { "blank response" } else { "response" };
+                coverage.count(at_degree(response, *degree), 1);
+                coverage.see(format!("accepted {response}"), *bit);
+                coverage.see(format!("rejected {response}"), !*bit);
             }
         }
     }
@@ -131,6 +132,8 @@ fn count_what_differs(coverage: &mut Coverage, steps: &[Step], others: &[Step]) 
                 let differ = call.words[..WORDS_ASKED] != other.words[..WORDS_ASKED];
                 coverage.see("equal histories, other words of a response", differ);
                 coverage.see("equal histories, other key", call.key != other.key);
+                let blank = call.challenge.is_empty();
+                coverage.see("equal histories, other key of a blank response", blank && call.key != other.key);
                 coverage.see("equal histories, other noise", call.y != other.y);
                 let other_tests = is_rejected_by_z1(call) != is_rejected_by_z1(other);
                 coverage.see("equal histories, rejected by z1 alone and by other tests", other_tests);
@@ -202,6 +205,8 @@ fn count_what_is_free(coverage: &mut Coverage, step: &Step, given: &Given, count
         (Call::Respond(call), Call::Respond(other)) => {
             coverage.see("words behind those that a response read", behind(&call.words, &other.words));
             coverage.see("another z before a response", call.z != other.z);
+            let other_key = call.key.iter().zip(&other.key).all(|(value, other)| value != other);
+            coverage.see("another key at every place of a blank response", call.challenge.is_empty() && other_key);
         }
         _ => panic!("a counterpart of another kind"),
     }

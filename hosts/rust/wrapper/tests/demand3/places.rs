@@ -3,6 +3,7 @@
 use bliss_box::{Entry, Kind};
 
 use super::steps::{Call, Step};
+use crate::calls::respond::GREATEST_KEY;
 use crate::random::Random;
 
 /// The places of one kind in a call's entries.
@@ -11,12 +12,17 @@ pub fn listed(entries: &[u32], kind: Kind) -> Vec<usize> {
 }
 
 /// Values that agree with these at the listed places, and are others elsewhere.
-fn agreeing<T: Copy>(values: &[T], places: &[usize], mut other: impl FnMut() -> T) -> Vec<T> {
-    let mut agreeing: Vec<T> = values.iter().map(|_| other()).collect();
+fn agreeing<T: Copy>(values: &[T], places: &[usize], other: impl FnMut(&T) -> T) -> Vec<T> {
+    let mut agreeing: Vec<T> = values.iter().map(other).collect();
     for &place in places {
         agreeing[place] = values[place];
     }
     agreeing
+}
+
+/// Another value of a key: one out of its bounds would be refused, listed or not.
+fn other_key_value(random: &mut Random, value: i32) -> i32 {
+    (value + GREATEST_KEY + 1 + random.below(14) as i32) % 15 - GREATEST_KEY
 }
 
 /// A call of the same kind, limit and challenge, that agrees at what the first call's entries name. The rest is any: words,
@@ -25,18 +31,18 @@ pub fn counterpart(random: &mut Random, step: &Step, entries: &[u32]) -> Step {
     let mut step = step.clone();
     let (words, list) = match &mut step.call {
         Call::Draw(call) => {
-            call.cdt = agreeing(&call.cdt, &listed(entries, Kind::Cdt), || random.word());
-            call.polynomial = agreeing(&call.polynomial, &listed(entries, Kind::Polynomial), || random.word());
+            call.cdt = agreeing(&call.cdt, &listed(entries, Kind::Cdt), |_| random.word());
+            call.polynomial = agreeing(&call.polynomial, &listed(entries, Kind::Polynomial), |_| random.word());
             (&mut call.words, &mut call.list)
         }
         Call::Respond(call) => {
-            call.polynomial = agreeing(&call.polynomial, &listed(entries, Kind::Polynomial), || random.word());
-            call.key = agreeing(&call.key, &listed(entries, Kind::Key), || random.word() as i32);
+            call.polynomial = agreeing(&call.polynomial, &listed(entries, Kind::Polynomial), |_| random.word());
+            call.key = agreeing(&call.key, &listed(entries, Kind::Key), |&value| other_key_value(random, value));
             call.z.fill_with(|| random.word() as i32);
             (&mut call.words, &mut call.list)
         }
     };
-    *words = agreeing(words, &listed(entries, Kind::Word), || random.word());
+    *words = agreeing(words, &listed(entries, Kind::Word), |_| random.word());
     words.extend((0..random.below(5)).map(|_| random.word()));
     list.fill_with(|| random.word() as u32);
     list.extend((0..random.below(5)).map(|_| random.word() as u32));

@@ -86,9 +86,12 @@ fn refused_call(random: &mut Random, degree: usize) -> Call {
         assert!(calls::draw::spoil(random, &mut call, refusal));
         Call::Draw(call)
     } else {
-        let mut call = calls::respond::right(random, degree);
         let refusal = random.pick(&[2, 4, 6, 7, 8, 10, 11]);
-        assert!(calls::respond::spoil(random, &mut call, refusal));
+        let mut call = calls::respond::right(random, degree);
+        // A blank response has no room for refusal 6.
+        while !calls::respond::spoil(random, &mut call, refusal) {
+            call = calls::respond::right(random, degree);
+        }
         Call::Respond(call)
     }
 }

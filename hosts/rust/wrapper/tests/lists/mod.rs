@@ -3,7 +3,7 @@
 
 use crate::calls;
 use crate::comparison::Comparison;
-use crate::coverage::{at_every_degree, refused, Coverage, DRAW_REFUSALS, RESPOND_REFUSALS};
+use crate::coverage::{at_every_degree, refused, Coverage, BLANK_REFUSALS, DRAW_REFUSALS, RESPOND_REFUSALS};
 use crate::model::Session;
 use crate::random::Random;
 use crate::run;
@@ -11,7 +11,10 @@ use crate::run;
 #[derive(Default)]
 struct Coverages {
     draws: Coverage,
+    /// Responses to one position or more.
     responses: Coverage,
+    /// Blank responses.
+    blanks: Coverage,
     /// A call by the one before it that was served.
     steps: Coverage,
 }
@@ -24,21 +27,26 @@ pub fn lists_of_calls_are_the_models(comparison: &Comparison) {
     }
     coverages.draws.print("draws in lists of calls");
     coverages.responses.print("responses in lists of calls");
+    coverages.blanks.print("blank responses in lists of calls");
     coverages.steps.print("steps in lists of calls");
     coverages.draws.require(DRAW_REFUSALS.map(refused));
     coverages.draws.require(at_every_degree(&["full", "spent"]));
     coverages.responses.require(RESPOND_REFUSALS.map(refused));
     coverages.responses.require(at_every_degree(&["accepted", "rejected"]));
     coverages.responses.require(["rejected by z1 alone".into()]);
+    coverages.blanks.require(BLANK_REFUSALS.map(refused));
+    let outcomes = ["accepted", "rejected by word 1 alone", "rejected by z1 alone"];
+    coverages.blanks.require(outcomes.into_iter().flat_map(|outcome| [0, 1].map(|g| format!("{outcome}, g = {g}"))));
     coverages.steps.require(every_step());
 }
 
 /// After each call, each that can follow it.
 fn every_step() -> Vec<String> {
-    let befores = ["opened", "full", "spent", "accepted", "rejected"];
+    let responses = ["accepted", "rejected", "blank accepted", "blank rejected"];
+    let befores = ["opened", "full", "spent"].into_iter().chain(responses);
     let afters = ["full", "spent", "draw refused", "response refused"];
-    let steps = befores.iter().flat_map(|before| afters.map(|after| step(before, after)));
-    steps.chain(["accepted", "rejected"].map(|after| step("full", after))).collect()
+    let steps = befores.flat_map(|before| afters.map(|after| step(before, after)));
+    steps.chain(responses.map(|after| step("full", after))).collect()
 }
 
 fn step(before: &str, after: &str) -> String {
@@ -104,12 +112,19 @@ impl Running<'_> {
             calls::respond::spoil(random, &mut call, refusal);
         }
         let responded = self.comparison.respond(&origin, &call);
-        coverages.responses.count_respond(&call, &responded);
+        let blank = call.challenge.is_empty();
+        let responses = if blank { &mut coverages.blanks } else { &mut coverages.responses };
+        responses.count_respond(&call, &responded);
         self.session = responded.session;
         if responded.answer.refusal != 0 {
             return None;
         }
         self.y = responded.y;
-        Some(if responded.answer.bit { "accepted" } else { "rejected" })
+        Some(match (blank, responded.answer.bit) {
+            (false, true) => "accepted",
+            (false, false) => "rejected",
+            (true, true) => "blank accepted",
+            (true, false) => "blank rejected",
+        })
     }
 }

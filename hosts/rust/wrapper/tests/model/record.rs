@@ -129,7 +129,7 @@ impl Rest<'_> {
     }
 }
 
-/// Refusal 6 of document 01, the other way round.
+/// Refusal 6 of document 01, the other way round. A record still wants at least one position.
 fn challenge_is_right(challenge: &[u32], n: usize) -> bool {
     let ascends = challenge.windows(2).all(|pair| pair[0] < pair[1]);
     !challenge.is_empty() && challenge.len() <= 64 && ascends && challenge.iter().all(|&position| (position as usize) < n)

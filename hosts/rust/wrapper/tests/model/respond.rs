@@ -1,4 +1,4 @@
-//! A response, with the numbers that decide it.
+//! A response, with the numbers that decide it. To an empty challenge it is blank: Sc is zero, and so z is y.
 
 use super::{
     degree_is_served, entry, exponential, list_polynomial, of_62, written, Session, EXPONENTIAL_LIMIT, ONE, POLYNOMIAL,
@@ -163,8 +163,9 @@ impl Response {
     }
 }
 
+/// Whether a challenge is answered. By document 02's S-5 it may be empty.
 fn challenge_is_right(challenge: &[u32], n: usize) -> bool {
-    if challenge.is_empty() || challenge.len() > 64 || challenge.len() > n {
+    if challenge.len() > 64 || challenge.len() > n {
         return false;
     }
     for (place, &position) in challenge.iter().enumerate() {

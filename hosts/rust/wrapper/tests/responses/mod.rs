@@ -1,28 +1,44 @@
 //! Single respond calls.
 
+mod blank;
+
 use crate::calls::respond::{GREATEST_KEY, GREATEST_Y, GREATEST_Z1};
 use crate::calls::{self, places, DEGREES};
 use crate::comparison::Comparison;
-use crate::coverage::{at_every_degree, every_refusal, Coverage, BY_A, BY_COSH, BY_Z, BY_Z1, RESPOND_REFUSALS};
+use crate::coverage::{
+    at_every_degree, every_refusal, Coverage, ACCEPTED, BLANK_REFUSALS, BY_A, BY_COSH, BY_Z, BY_Z1, RESPOND_REFUSALS,
+};
 use crate::model::respond::{list_asked, product, Call, Responded, Response, WORDS_ASKED};
 use crate::model::{Session, POLYNOMIAL};
 use crate::random::Random;
 use crate::run::{self, DEFAULT_SEED};
 
+pub use blank::blank_responses_by_hand_are_the_models;
+
 pub fn responses_are_the_models(comparison: &Comparison) {
+    // Blank responses are counted apart: the others must still meet every case without them.
     let mut coverage = Coverage::default();
+    let mut blanks = Coverage::default();
     for seed in run::seeds(1) {
         let (call, reasons) = calls::respond::any(&mut Random::new(seed));
         let origin = format!("BLISS_SEED={seed}");
         let responded = comparison.respond(&origin, &call);
         calls::assert_as_made(&origin, responded.answer.refusal, &reasons, &RESPOND_REFUSALS);
-        coverage.count_respond(&call, &responded);
-        coverage.count_reasons(&reasons, &RESPOND_REFUSALS);
+        if call.challenge.is_empty() {
+            blanks.count_respond(&call, &responded);
+            blanks.count_reasons(&reasons, &BLANK_REFUSALS);
+        } else {
+            coverage.count_respond(&call, &responded);
+            coverage.count_reasons(&reasons, &RESPOND_REFUSALS);
+        }
     }
     coverage.print("responses");
-    coverage.require_what_is_counted();
-    coverage.require(every_refusal(&RESPOND_REFUSALS));
-    coverage.require(at_every_degree(&["accepted", "rejected"]));
+    blanks.print("blank responses");
+    for (coverage, refusals) in [(coverage, &RESPOND_REFUSALS[..]), (blanks, &BLANK_REFUSALS[..])] {
+        coverage.require_what_is_counted();
+        coverage.require(every_refusal(refusals));
+        coverage.require(at_every_degree(&["accepted", "rejected"]));
+    }
 }
 
 /// A call with this key and y, the challenge 0 and all words 0: the product is the key.
@@ -38,8 +54,6 @@ fn plain(degree: usize, key: Vec<i32>, y: Vec<i32>) -> Call {
         list: vec![9; list_asked(degree, 1)],
     }
 }
-
-const ACCEPTED: [bool; 5] = [true; 5];
 
 /// Which of its tests a response passes.
 fn tests(comparison: &Comparison, name: &str, call: &Call) -> [bool; 5] {
@@ -61,11 +75,7 @@ pub fn the_limits_of_a_response_are_the_models(comparison: &Comparison) {
     *key.last_mut().unwrap() = -1;
     assert_eq!(tests("A = 46,226", &key, &zero), BY_A);
 
-    // 37 × 2,100² + 1,586² + 54² + 8² + 2² + 2² = 165,688,384.
-    let in_z1 = halves(&[&[2100; 37][..], &[-1586, 54, -8, 2, -2]].concat(), &[]);
-    // 20 × 2,815² + 2,684² + 5² + 1 + 1 + 1 = 165,688,384.
-    let in_z2 = halves(&[], &[&[-2815; 20][..], &[2684, -5, 1, -1, 1]].concat());
-    for (name, mut y) in [("in z1", in_z1), ("in z2", in_z2)] {
+    for (name, mut y) in noise_at_the_limit() {
         assert_eq!(tests(&format!("Z = 165,688,384, {name}"), &zero, &y), ACCEPTED);
         *y.last_mut().unwrap() = -1;
         assert_eq!(tests(&format!("Z = 165,688,385, {name}"), &zero, &y), BY_Z);
@@ -74,6 +84,15 @@ pub fn the_limits_of_a_response_are_the_models(comparison: &Comparison) {
     // 53 × 2,100² + 2,008² + 45² + 2² + 1 + 1 + 1 + 512 × 2,815² = 2^32.
     let y = halves(&[&[2100; 53][..], &[2008, 45, -2, 1, -1, 1]].concat(), &[2815; 512]);
     assert_eq!(tests("Z = 2^32", &zero, &y), BY_Z);
+}
+
+/// Noise for n = 512 whose sum of squares is 165,688,384. Its last value is 0.
+fn noise_at_the_limit() -> [(&'static str, Vec<i32>); 2] {
+    // 37 × 2,100² + 1,586² + 54² + 8² + 2² + 2² = 165,688,384.
+    let in_z1 = halves(&[&[2100; 37][..], &[-1586, 54, -8, 2, -2]].concat(), &[]);
+    // 20 × 2,815² + 2,684² + 5² + 1 + 1 + 1 = 165,688,384.
+    let in_z2 = halves(&[], &[&[-2815; 20][..], &[2684, -5, 1, -1, 1]].concat());
+    [("in z1", in_z1), ("in z2", in_z2)]
 }
 
 /// Two halves of 512 values that begin with these, and go on with zeros.
@@ -133,19 +152,22 @@ fn along_the_product(n: usize, challenge: &[u32], key: i32, y: i32, word_0: u64)
     call
 }
 
-/// Each value and each length that is checked, spoilt alone, and each end of what is served.
+/// Each value and each length that is checked, spoilt alone, and each end of what is served: of a call with a position, and of a
+/// blank one.
 pub fn each_check_alone_is_the_models(comparison: &Comparison) {
     let mut random = Random::new(DEFAULT_SEED);
-    for n in DEGREES {
+    for (n, positions) in DEGREES.into_iter().flat_map(|n| [(n, &[1][..]), (n, &[])]) {
         let y = [[0, 1, -1, 2], [2815, -2815, 215, -215]].map(|values| values.repeat(n / 4)).concat();
-        let right = calls::respond::over(&mut random, n, &[1], &y);
+        let right = calls::respond::over(&mut random, n, positions, &y);
         for (name, call) in spoilt_in_one_place(&right).into_iter().chain(with_wrong_challenges(&right)) {
-            let responded = comparison.respond(&format!("n = {n}, {name}"), &call);
-            assert_ne!(responded.answer.refusal, 0, "n = {n}, {name} is served");
+            let name = format!("n = {n}, positions {positions:?}, {name}");
+            let responded = comparison.respond(&name, &call);
+            assert_ne!(responded.answer.refusal, 0, "{name} is served");
         }
         for (name, call) in served_at_an_end(&right) {
-            let responded = comparison.respond(&format!("n = {n}, {name}"), &call);
-            assert_eq!(responded.answer.refusal, 0, "n = {n}, {name} is refused");
+            let name = format!("n = {n}, positions {positions:?}, {name}");
+            let responded = comparison.respond(&name, &call);
+            assert_eq!(responded.answer.refusal, 0, "{name} is refused");
         }
     }
 }
@@ -169,9 +191,8 @@ fn served_at_an_end(right: &Call) -> Vec<(String, Call)> {
     let last = n as u32 - 1;
     let most = n.min(64) as u32;
     let mut served = vec![("nothing spoilt".into(), right.clone())];
-    for challenge in [vec![0], vec![last], vec![0, last], (0..most).collect(), (n as u32 - most..n as u32).collect()] {
-        served.push(with_challenge(right, &challenge));
-    }
+    let ends = [vec![], vec![0], vec![last], vec![0, last], (0..most).collect(), (n as u32 - most..n as u32).collect()];
+    served.extend(ends.iter().map(|challenge| with_challenge(right, challenge)));
     for place in places(n) {
         for value in [-7, 7] {
             served.push((format!("key value {place} at {value}"), changed(right, |call| call.key[place] = value)));
@@ -239,17 +260,7 @@ fn with_wrong_challenges(right: &Call) -> Vec<(String, Call)> {
     let most = n.min(64);
     let twice: Vec<u32> = (0..most - 1).chain([most - 2]).collect();
     let beyond: Vec<u32> = (0..most - 1).chain([n]).collect();
-    let challenges = [
-        vec![],
-        vec![n],
-        vec![n + 1],
-        vec![u32::MAX],
-        vec![2, 2],
-        vec![3, 2],
-        vec![1, 0, 2],
-        (0..=most).collect(),
-        twice,
-        beyond,
-    ];
+    let challenges =
+        [vec![n], vec![n + 1], vec![u32::MAX], vec![2, 2], vec![3, 2], vec![1, 0, 2], (0..=most).collect(), twice, beyond];
     challenges.iter().map(|challenge| with_challenge(right, challenge)).collect()
 }
