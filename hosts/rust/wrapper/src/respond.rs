@@ -27,8 +27,8 @@ pub const fn respond_list_length(n: usize, positions: usize) -> usize {
     sample_count(n) * positions + 47
 }
 
-/// In the place of an empty challenge, where a blank response was not asked for: a position of no degree. So the box refuses it by
-/// 6, after whatever else is wrong with the call and comes before.
+/// In the place of an empty challenge, where a blank response was not asked for: a position of no degree. The box refuses it by 6,
+/// unless an earlier refusal applies.
 const NO_CHALLENGE: &[u32] = &[u32::MAX];
 
 /// What a served response came to.

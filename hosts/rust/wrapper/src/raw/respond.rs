@@ -29,7 +29,7 @@ pub struct Responded {
 layout!(Responded of 32 bytes: answer at 0, session at 16);
 
 extern "C" {
-    /// Turns y, the key and the challenge into z or a rejection, and lists what it reads.
+    /// Turns y, the key and the challenge into z or a rejection, and lists what it reads. An empty challenge is served: z is then y.
     ///
     /// # Safety
     ///
