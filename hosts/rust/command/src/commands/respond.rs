@@ -170,11 +170,7 @@ impl Respond {
         let mut responding = Responding {
             drawing: self.options.drawing(&session)?,
             key: self.key.as_ref().map(|path| Table::read(NumberFile::secret(path)?, sample_count(n))).transpose()?,
-            challenge: self
-                .challenge
-                .as_ref()
-                .map(|path| Table::read(NumberFile::public(path)?, challenge_limit(n)))
-                .transpose()?,
+            challenge: self.read_challenge(n)?,
         };
         let mut lists = self.options.lists()?;
         let record = self.record.as_ref().map(Target::create).transpose()?;
@@ -200,6 +196,15 @@ impl Respond {
         let advice = if self.blank { "" } else { NEVER_ACCEPTED };
         output::say(&format!("no response accepted: tries {}.{advice}", self.tries));
         Ok(Status::Unserved)
+    }
+
+    /// None where a blank response is asked for, and nowhere else.
+    fn read_challenge(&self, n: usize) -> Result<Option<Table<u32>>, Failure> {
+        if self.blank {
+            return Ok(None);
+        }
+        let path = self.challenge.as_ref().expect("a command line has one or --blank");
+        Table::read(NumberFile::public(path)?, challenge_limit(n)).map(Some)
     }
 }
 
