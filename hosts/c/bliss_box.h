@@ -77,7 +77,7 @@ enum {
     BLISS_REFUSED_POLYNOMIAL = 4,  /* an entry of the polynomial table is not the whole part of 2^62 / j! */
     BLISS_REFUSED_LIMIT = 5,       /* the limit is outside 2n to 32n */
     BLISS_REFUSED_CHALLENGE = 6,   /* the challenge is longer than 64 or than n, has a position of n or more, or does not ascend
-                                      strictly; that of a record, or of a key check by its length, is empty */
+                                      strictly; an empty one too, but for a response */
     BLISS_REFUSED_WORDS = 7,       /* there are fewer than 4 words for each attempt of a draw, or than 3 for a response */
     BLISS_REFUSED_LIST = 8,        /* the list is shorter than 46 entries for each attempt of a draw and 2 more, or than 2n for
                                       each position of a challenge and 47 more */

@@ -1,12 +1,13 @@
 -- What is known of positions that may be a challenge. Assumes nothing.
 use mathlib.Core.Path.{_≡_}
 use mathlib.Core.Bool.{true}
-use mathlib.Core.List.{List}
+use mathlib.Core.List.{List, []}
 use Prim.Native.Nat.{ℕ, suc, _-_, _≤_, _<_}
 use native.Mathlib.Omega.{arith}
 use lib.Dec.{leb, ltb}
 use lib.ListN.{length, getD}
-use borrow.Author.Tests.{leb-true, ltb-true}
+use borrow.Author.Tests.{leb-true, le-leb, ltb-true}
+use Rattle.checks.specs.Checks.{allBelow}
 use Rattle.checks.proofs.JoinedTests.{both-true}
 use Rattle.checks.proofs.AllBelow.{all-at}
 use Rattle.challenge.specs.Challenge.{lengthFits, positionsBelow, ascends, arePositions, isChallenge}
@@ -26,6 +27,11 @@ positions-of n challenge h =
       below = positions .0;
       rising = positions .1;
     }
+
+-- none at all may be
+pub no-positions : (n : ℕ) → arePositions n [] ≡ true
+unfolding arePositions positionsBelow ascends allBelow
+no-positions n = rw (le-leb 0 n (omega arith))
 
 pub challenge-of : (n : ℕ) (challenge : List ℕ) → isChallenge n challenge ≡ true → Challenge n challenge
 unfolding isChallenge

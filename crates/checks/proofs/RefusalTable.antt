@@ -32,6 +32,12 @@ unfolding firstRefusal
 refuses {test = true} refusal lines f rest = passed (f .holds refl) (rest refl)
 refuses {test = false} refusal lines f rest = refused (f .fails refl) refl
 
+-- a line whose test holds tells nothing
+pub skips : {test : Bool} (refusal : ℕ) (lines : List Line) → test ≡ true
+    → firstRefusal (line refusal test ∷ lines) ≡ firstRefusal lines
+unfolding firstRefusal
+skips refusal lines h = rw h
+
 pub serves : Serves (firstRefusal [])
 unfolding firstRefusal
 serves = refl

@@ -1,7 +1,7 @@
--- Request S-5 in numbers, at degree 4: what a respond to the empty challenge is still refused for, what it gives, and that the key check
--- and the record want a position as before. negsuc k is -(k + 1). Assumes nothing.
+-- Request S-5 in numbers, at degree 4, and for Z at 32: what a respond to the empty challenge is still refused for, what it gives, and
+-- that the key check and the record want a position as before. negsuc k is -(k + 1). Assumes nothing.
 use mathlib.Core.Path.{_≡_}
-use mathlib.Core.Bool.{true, false}
+use mathlib.Core.Bool.{Bool, true, false}
 use mathlib.Core.List.{List, [], _∷_, _++_}
 use mathlib.Core.Option.{none}
 use Prim.Native.Nat.{ℕ, _*_}
@@ -31,22 +31,20 @@ blankAt n words value y = respondLeft
 abbrev pub blankReads : (bit : ℕ) → List ℕ
 blankReads bit = entry 7 4 ∷ entry 2 0 ∷ entry 2 1 ∷ entry 2 2 ∷ (exponentialReads ++ (exponentialReads ++ (entry 9 bit ∷ [])))
 
--- what a blank response leaves with this z, and one that is rejected: of the list the last entry is as it was
-abbrev pub accepted : (z : List ℤ) → RespondLeft
-accepted z = record {
-  responded = record { answer = record { refusal = 0; bit = true; entries = 47 }; session = record { degree = 4; drawn = false } };
+-- what a blank response leaves with this bit, which is this number, and this z: of the list the last entry is as it was
+abbrev pub answered : (bit : Bool) (number : ℕ) (z : List ℤ) → RespondLeft
+answered bit number z = record {
+  responded = record { answer = record { refusal = 0; bit = bit; entries = 47 }; session = record { degree = 4; drawn = false } };
   y = zeros;
   z = z;
-  list = blankReads 1 ++ (9 ∷ []);
+  list = blankReads number ++ (9 ∷ []);
 }
 
+abbrev pub accepted : (z : List ℤ) → RespondLeft
+accepted z = answered true 1 z
+
 abbrev pub rejected : RespondLeft
-rejected = record {
-  responded = record { answer = record { refusal = 0; bit = false; entries = 47 }; session = record { degree = 4; drawn = false } };
-  y = zeros;
-  z = zeros;
-  list = blankReads 0 ++ (9 ∷ []);
-}
+rejected = answered false 0 zeros
 
 -- a y of both signs
 abbrev pub noise : List ℤ

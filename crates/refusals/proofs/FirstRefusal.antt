@@ -10,19 +10,20 @@ use lib.Dec.{leb, eqb}
 use lib.IntN.{ℤ, natAbs}
 use lib.ListN.{length, getD}
 use lib.Seq.{ext-getD}
-use borrow.Author.Tests.{eqb-true, leb-false, le-leb}
+use borrow.Author.Tests.{eqb-true, leb-false}
 use Rattle.signed.specs.Vectors.{allWithin}
 use Rattle.signed.proofs.Vectors.{within-at}
 use Rattle.checks.specs.Checks.{isDegree, allBelow, Line, line, firstRefusal}
 use Rattle.checks.specs.RefusalTable.{Refuses}
 use Rattle.checks.proofs.JoinedTests.{both-true}
 use Rattle.checks.proofs.AllBelow.{all-at}
-use Rattle.checks.proofs.RefusalTable.{FailsWhere, refuses, serves, fails-unequal, fails-above, fails-from, fails-either, fails-somewhere}
+use Rattle.checks.proofs.RefusalTable.{FailsWhere, refuses, skips, serves, fails-unequal, fails-above, fails-from, fails-either, fails-somewhere}
 use Rattle.checks.proofs.RefusalTable.{fails-no-degree, fails-empty}
 use Rattle.exponential.specs.Exponential.{polynomialEntry, entriesFrom, polynomial, isPolynomial}
 use Rattle.exponential.proofs.Table.{table-at, polynomial-of, is-polynomial}
 use Rattle.base_sample.specs.BaseSample.{threshold, wordsSmall, neverFalls, isCdt}
 use Rattle.challenge.specs.Challenge.{positionsBelow, ascends, arePositions, isChallenge}
+use Rattle.challenge.proofs.Positions.{no-positions}
 use Rattle.response.specs.Response.{respondListLength}
 use Rattle.refusals.specs.Refusals.{openRefusal, drawRefusal, noiseTests, respondRefusal}
 use Rattle.refusals.specs.FirstRefusal.{NoDegree, NoCdt, NoPolynomial, TooMany, NoPositions, Outside, OpeningRefuses, DrawRefuses}
@@ -111,17 +112,17 @@ draw-refuses n limit cdt table words y list =
     twenty-one : (eqb (length cdt) 20 && (eqb (length table) 21 && eqb y (2 * n))) ≡ true → length table ≡ 21
     twenty-one e = eqb-true (length table) 21 (both-true (eqb (length table) 21) _ (both-true (eqb (length cdt) 20) _ e .1) .0)
 
--- the lines of a respond behind that of its challenge
 fails-not-drawn : (drawn : Bool) → FailsWhere drawn (drawn ≡ false)
 fails-not-drawn drawn = record { fails = λ e. e; holds = λ e not-drawn. false≢true (sym not-drawn ∙ e) }
 
+-- a respond's lines as to y and the key
 noise-refuses : (drawn : Bool) (key y : List ℤ) → NoiseRefuses drawn key y (firstRefusal (noiseTests drawn key y))
 noise-refuses drawn key y =
     refuses 9 _ (fails-not-drawn drawn) (λ p9.
     refuses 10 _ (fails-outside 7 key) (λ p10.
     refuses 11 _ (fails-outside 2815 y) (λ p11. serves)))
 
--- and those before it, whatever follows them
+-- and those before its challenge, whatever follows them
 module _ (n : ℕ) (table : List ℕ) (y key : List ℤ) (z : ℕ) (later : ℕ → Type 0) (lines : List Line) where
   lengths : Bool
   lengths = eqb (length table) 21 && (eqb (length y) (2 * n) && (eqb z (2 * n) && eqb (length key) (2 * n)))
@@ -136,15 +137,6 @@ module _ (n : ℕ) (table : List ℕ) (y key : List ℤ) (z : ℕ) (later : ℕ 
       refuses 1 _ (fails-no-degree n) (λ p1.
       refuses 2 _ (fails-either (fails-unequal (length table) 21) (fails-either (fails-unequal (length y) (2 * n)) (fails-either (fails-unequal z (2 * n)) (fails-unequal (length key) (2 * n))))) (λ p2.
       refuses 4 _ (fails-no-polynomial table (eqb-true (length table) 21 (both-true (eqb (length table) 21) _ p2 .0))) (λ p4. rest)))
-
--- a line whose test holds tells nothing
-skips : {test : Bool} (refusal : ℕ) (lines : List Line) → test ≡ true → firstRefusal (line refusal test ∷ lines) ≡ firstRefusal lines
-unfolding firstRefusal
-skips refusal lines h = rw h
-
-no-positions : (n : ℕ) → arePositions n [] ≡ true
-unfolding arePositions positionsBelow ascends allBelow
-no-positions n = rw (le-leb 0 n (omega arith))
 
 module _ (n : ℕ) (drawn : Bool) (table : List ℕ) (words : ℕ) (key y : List ℤ) (z list : ℕ) where
   pub respond-refuses : (challenge : List ℕ)

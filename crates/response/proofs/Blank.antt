@@ -8,8 +8,7 @@ use native.Mathlib.Omega.{arith}
 use lib.ListN.{length, getD, replicate}
 use lib.IntN.{ℤ, pos}
 use Rattle.read_list.specs.Entries.{placesUp, placesDown}
-use Rattle.signed.specs.Vectors.{squareSum, innerProduct}
-use Rattle.signed.proofs.Vectors.{zeros-within, squares-within}
+use Rattle.signed.proofs.Vectors.{squares-zeros}
 use Rattle.signed.proofs.InnerProducts.{inner-comm, inner-zeros}
 use Rattle.challenge_product.specs.Product.{product}
 use Rattle.challenge_product.proofs.EmptyChallenge.{product-of-none, entries-of-none}
@@ -27,18 +26,12 @@ blank-z key n y words l = rw (product-of-none key n) (response-of-none (subtract
 
 -- ** The bit
 
-squares-of-zeros : (k : ℕ) → squareSum (replicate k (pos 0)) ≡ 0
-squares-of-zeros k = let h = squares-within 0 (replicate k (pos 0)) (zeros-within 0 k) in omega (arith, h)
-
-products-with-zeros : (y : List ℤ) (k : ℕ) → innerProduct y (replicate k (pos 0)) ≡ pos 0
-products-with-zeros y k = inner-comm y (replicate k (pos 0)) ∙ inner-zeros k y
-
 -- over a product of zeros the tests of A and of the third word pass
 tests-left : (e : ℕ → ℕ) → e 0 ≡ 2 ^ 62 → (n k : ℕ) (y : List ℤ) (second third : ℕ)
     → AllTestsPass e n (replicate k (pos 0)) y second third ↔ BlankPasses e n y second
 tests-left e one n k y second third =
-    let a = squares-of-zeros k in
-    let i = products-with-zeros y k in (
+    let a = squares-zeros k in
+    let i = inner-comm y (replicate k (pos 0)) ∙ inner-zeros k y in (
       λ t. let o = t .four .others in
           record { norm = o .norm; first-exponential = rw a at (o .first-exponential); coefficients = t .coefficients },
       λ t. record {

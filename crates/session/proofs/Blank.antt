@@ -23,7 +23,9 @@ use Rattle.session.proofs.ByRule.{exp-over}
 
 pub blank-refuses-first : BlankRefusesFirst
 unfolding refusalOfRespond
-blank-refuses-first s r none = rw (respond-left s r .number-is, none) (blank-refuses _ _ _ _ _ _ _ _)
+blank-refuses-first s r none =
+    rw (respond-left s r .number-is, none)
+    (blank-refuses (s .degree) (s .drawn) (r .polynomial) (length (r .words)) (r .key) (r .y) (length (r .z)) (length (r .list)))
 
 exp-0 : exp 0 ≡ 2 ^ 62
 unfolding exp

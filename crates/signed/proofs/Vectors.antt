@@ -75,6 +75,9 @@ squares-within bound (v ∷ values) h =
     let parts = within-parts bound v values h in
     omega (arith, mul-le-mul (parts .0) (parts .0), squares-within bound values (parts .1))
 
+pub squares-zeros : (k : ℕ) → squareSum (replicate k (pos 0)) ≡ 0
+squares-zeros k = omega (arith, squares-within 0 (replicate k (pos 0)) (zeros-within 0 k))
+
 pub squares-append : (as′ bs : List ℤ) → squareSum (as′ ++ bs) ≡ squareSum as′ + squareSum bs
 unfolding squareSum
 squares-append [] bs = omega arith

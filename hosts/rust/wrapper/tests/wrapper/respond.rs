@@ -73,7 +73,7 @@ fn a_value_of_z1_above_its_limit_rejects_a_response() {
     }
 }
 
-/// Responds to nothing by the call for that, over a y of 1 to 8, with this key in every place and this first word.
+/// Makes a blank response over a y of 1 to 8, with this value of the key in every place and these words.
 fn respond_blank(key: i32, words: [u64; RESPOND_WORDS]) -> (Responded, Vec<i32>, Vec<u32>) {
     let mut y: Vec<i32> = (1..).take(sample_count(N)).collect();
     let mut z = vec![5; sample_count(N)];
