@@ -1,4 +1,4 @@
-"""Writes the points of draws, worked out from document 01 and independently of the library.
+"""Writes the points of draws, worked out from document 01 with request S-6, and independently of the library.
 
 points.py stdin prints rows of 23 columns of 16 hexadecimal digits: a CDT table, a polynomial table, then the draws over them, whose number
 is the last column of the CDT table's row. points.py stdout prints the outcome of each draw: the refusal of the opening, the answer
@@ -20,9 +20,12 @@ ALL_ONES = 2**64 - 1
 # Where the session of a draw comes from.
 OPENED, BEFORE, MADE, MADE_DRAWN = range(4)
 
-# Thresholds, and a word too many, for a table that is too long.
-KNOWN = [word for i in range(1, 12) for word in (i * 2**40, 0)][:21]
-EQUAL_HIGH = [word for i in range(1, 12) for word in (2**40, i * 2**20)][:21]
+# Ten high words, ten low words, and a word too many, for a table that is too long.
+KNOWN = [i * 2**40 for i in range(1, 11)] + [0] * 10 + [0]
+EQUAL_HIGH = [2**40] * 10 + [i * 2**20 for i in range(1, 11)] + [0]
+# Document 01's order of the known words, and words that are a table in both orders.
+KNOWN_BEFORE = [word for i in range(1, 11) for word in (i * 2**40, 0)] + [0]
+IN_BOTH_ORDERS = list(range(21))
 
 # Words: those of attempt 0, and what each is raised by from attempt to attempt.
 CLIMBING = (0, 0, 0, 0, 2**40, 0, 0, 0)
@@ -104,7 +107,7 @@ def points():
     # Of two refusals the first is given: 2 before 5, 3 before 4, 4 before 5, 5 before 7 and 8, 7 before 8, 2 before all but 1, 1 before
     # all.
     yield lent(7, 19, 21, 32, 8, asked(8))
-    yield row(cdt=changed(KNOWN, 1, ONE), polynomial=changed(POLYNOMIAL + [0], 19, 38))
+    yield row(cdt=changed(KNOWN, 10, ONE), polynomial=changed(POLYNOMIAL + [0], 19, 38))
     yield row(limit=7, polynomial=changed(POLYNOMIAL + [0], 19, 38))
     yield lent(129, 20, 21, 0, 8, 0)
     yield lent(8, 20, 21, 31, 8, asked(8) - 1)
@@ -112,14 +115,16 @@ def points():
     yield row(12, 7, MADE, lent=(0, 0, 0, 0, 0))
 
     # CDT words of 2^62 and more, and just below it.
-    for place, word in ((0, ONE), (1, ONE), (18, ONE), (19, ONE), (19, ALL_ONES), (18, ONE - 1), (19, ONE - 1)):
+    for place, word in ((0, ONE), (9, ONE), (10, ONE), (19, ONE), (19, ALL_ONES), (9, ONE - 1), (19, ONE - 1)):
         yield row(cdt=changed(KNOWN, place, word))
     # The third threshold's high word just below the second's, and at it; a falling second and last threshold.
-    for place, word in ((4, 2**41 - 1), (4, 2**41), (2, 0), (18, 0)):
+    for place, word in ((2, 2**41 - 1), (2, 2**41), (1, 0), (9, 0)):
         yield row(cdt=changed(KNOWN, place, word))
     # Of equal high words, the third threshold's low word falls, is equal, and rises.
     for word in (2**21 - 1, 2**21, 2**21 + 1):
-        yield row(cdt=changed(EQUAL_HIGH, 5, word))
+        yield row(cdt=changed(EQUAL_HIGH, 12, word))
+    # Document 01's order is refused.
+    yield row(cdt=KNOWN_BEFORE)
     # Polynomial entry 19 = 38, entries 0 and 20 = 0.
     for place, word in ((19, 38), (0, 0), (20, 0)):
         yield row(polynomial=changed(POLYNOMIAL + [0], place, word))
@@ -143,6 +148,10 @@ def points():
         (ONE - 1, (ONE - 1, ONE - 1, 0, 0)),
     ):
         yield row(cdt=[word] * 21, words=repeated(*four))
+
+    # d just below, at and just above a threshold whose words are 5 and 15; by document 01's order they are 10 and 11.
+    for low in (14, 15, 16):
+        yield row(cdt=IN_BOTH_ORDERS, words=repeated(5, low, 0, 0))
 
     # x at both ends, and word 3 as large as it gets.
     yield known(0, 0, 0, ONE - 1)
@@ -196,7 +205,7 @@ def e(n):
 
 
 def thresholds(cdt):
-    return [high * ONE + low for high, low in zip(cdt[::2], cdt[1::2])]
+    return [high * ONE + low for high, low in zip(cdt[:10], cdt[10:])]
 
 
 def refusal(n, limit, cdt, polynomial, words, y, entries):

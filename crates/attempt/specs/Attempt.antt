@@ -47,13 +47,20 @@ negativeAt words t = eqb (getD words (4 * t + 2) 0 / 2 ^ 8 % 2) 1
 abbrev pub uniformAt : (words : List ℕ) (t : ℕ) → ℕ
 uniformAt words t = low62Of (getD words (4 * t + 3) 0)
 
--- the accept bit of attempt t
-unfoldable pub bitAt : (e : ℕ → ℕ) (cdt words : List ℕ) (t : ℕ) → Bool
-bitAt e cdt words t = accepts e (baseSample cdt (drawAt words t)) (lowBitsAt words t) (negativeAt words t) (uniformAt words t)
+-- the accept bit of attempt t, where each draw d has the base sample x d
+abbrev pub bitBy : (e x : ℕ → ℕ) (words : List ℕ) (t : ℕ) → Bool
+bitBy e x words t = accepts e (x (drawAt words t)) (lowBitsAt words t) (negativeAt words t) (uniformAt words t)
 
--- the sample of attempt t
+-- its sample
+abbrev pub sampleBy : (x : ℕ → ℕ) (words : List ℕ) (t : ℕ) → ℤ
+sampleBy x words t = sample (x (drawAt words t)) (lowBitsAt words t) (negativeAt words t)
+
+-- both by a CDT table
+unfoldable pub bitAt : (e : ℕ → ℕ) (cdt words : List ℕ) (t : ℕ) → Bool
+bitAt e cdt = bitBy e (baseSample cdt)
+
 unfoldable pub sampleAt : (cdt words : List ℕ) (t : ℕ) → ℤ
-sampleAt cdt words t = sample (baseSample cdt (drawAt words t)) (lowBitsAt words t) (negativeAt words t)
+sampleAt cdt = sampleBy (baseSample cdt)
 
 -- ** What follows
 

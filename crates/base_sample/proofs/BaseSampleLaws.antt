@@ -1,14 +1,16 @@
 -- The base sample is x exactly when d is at or above just x thresholds, and never falls as d rises. Assumes nothing.
-use mathlib.Core.Path.{_≡_, refl, subst}
+use mathlib.Core.Path.{_≡_, refl, sym, ap, ap₂, _∙_, subst}
 use mathlib.Core.Bool.{Bool, true, false}
-use mathlib.Core.List.{List}
+use mathlib.Core.List.{List, _++_}
 use mathlib.Core.Logic.{⊎-elim}
-use Prim.Native.Nat.{ℕ, zero, suc, _+_, _≤_, _<_}
+use Prim.Native.Nat.{ℕ, zero, suc, _+_, _*_, _^_, _≤_, _<_}
 use native.Mathlib.Nat.{le-trans, le-refl, lt-of-lt-of-le, lt-of-not-le, lt-irrefl, le-antisymm, eq-or-lt-of-le, add-le-add}
 use native.Mathlib.Nat.{not-suc-le-zero, le-of-suc-le-suc}
 use native.Mathlib.Omega.{arith}
 use lib.Arith.{le-zero}
 use lib.Dec.{leb}
+use lib.ListN.{getD, List·getD-append}
+use lib.Seq.{getD-append-add}
 use borrow.Author.Tests.{leb-true, leb-false, le-leb}
 use Rattle.arithmetic.specs.Words.{bit}
 use Rattle.checks.proofs.AllBelow.{all-at}
@@ -18,9 +20,12 @@ use Rattle.base_sample.specs.BaseSample.{ThresholdByItsWords, Rising}
 -- ** Thresholds that never fall
 
 pub threshold-by-its-words : ThresholdByItsWords
-threshold-by-its-words cdt i = refl
+threshold-by-its-words high low i h g =
+    let high-word = List·getD-append high low 0 i (omega (arith, h)) in
+    let low-word = ap (λ (n : ℕ). getD (high ++ low) (n + i) 0) (sym h) ∙ getD-append-add high low i 0 in
+    ap₂ (λ (m n : ℕ). m * 2 ^ 62 + n) high-word low-word
 
-pub rising : (cdt : List ℕ) → neverFalls cdt ≡ true → Rising cdt
+pub rising : (cdt : List ℕ) → neverFalls (threshold cdt) ≡ true → Rising cdt
 unfolding neverFalls
 rising cdt e i h = leb-true (threshold cdt i) (threshold cdt (suc i)) (all-at (λ (j : ℕ). leb (threshold cdt j) (threshold cdt (suc j))) i 9 h e)
 
@@ -66,10 +71,10 @@ module _ (cdt : List ℕ) (d : ℕ) where
             below = λ i g k. last here i (omega (arith, g)) k;
           }
 
-  counted : Rising cdt → (count : ℕ) → count ≤ 10 → AtJust cdt d count (atOrBelow cdt d count)
+  counted : Rising cdt → (count : ℕ) → count ≤ 10 → AtJust cdt d count (atOrBelow (threshold cdt) d count)
   unfolding atOrBelow
   counted e zero h = none
-  counted e (suc count) h = one-more e count (atOrBelow cdt d count) h (counted e count (omega arith))
+  counted e (suc count) h = one-more e count (atOrBelow (threshold cdt) d count) h (counted e count (omega arith))
 
   -- no two numbers fit
   just-one : (x x′ : ℕ) → AtJust cdt d 10 x → AtJust cdt d 10 x′ → x ≤ x′
@@ -91,11 +96,11 @@ bit-rises a d d′ h = by (leb a d) refl
     by true e = rw (le-leb a d′ (le-trans (leb-true a d e) h)) (le-refl 1)
     by false e = omega arith
 
-count-rises : (cdt : List ℕ) (d d′ count : ℕ) → d ≤ d′ → atOrBelow cdt d count ≤ atOrBelow cdt d′ count
+count-rises : (thresholds : ℕ → ℕ) (d d′ count : ℕ) → d ≤ d′ → atOrBelow thresholds d count ≤ atOrBelow thresholds d′ count
 unfolding atOrBelow
-count-rises cdt d d′ zero h = le-refl 0
-count-rises cdt d d′ (suc count) h = add-le-add (count-rises cdt d d′ count h) (bit-rises (threshold cdt count) d d′ h)
+count-rises thresholds d d′ zero h = le-refl 0
+count-rises thresholds d d′ (suc count) h = add-le-add (count-rises thresholds d d′ count h) (bit-rises (thresholds count) d d′ h)
 
 pub base-sample-rises : BaseSampleRises
 unfolding baseSample
-base-sample-rises cdt d d′ h = count-rises cdt d d′ 10 h
+base-sample-rises cdt d d′ h = count-rises (threshold cdt) d d′ 10 h

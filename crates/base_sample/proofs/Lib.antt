@@ -1,3 +1,4 @@
 pub mod Thresholds
 pub mod BaseSampleLaws
 pub mod Agreement
+pub mod Reordering

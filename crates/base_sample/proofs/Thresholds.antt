@@ -2,16 +2,15 @@
 use mathlib.Core.Path.{_≡_, refl}
 use mathlib.Core.Bool.{Bool, true, false}
 use mathlib.Core.List.{List}
-use Prim.Native.Nat.{ℕ, _+_, _-_, _^_, _<_}
+use Prim.Native.Nat.{ℕ, _+_, _^_, _<_}
 use native.Mathlib.Numerals.{add-one}
-use native.Mathlib.Omega.{arith}
 use lib.Dec.{leb, ltb}
 use lib.ListN.{getD}
 use borrow.Author.Tests.{ltb-true, ltb-false, le-leb, lt-leb}
 use Rattle.arithmetic.specs.Words.{bit}
 use Rattle.arithmetic.proofs.Bits.{bit-injective}
 use Rattle.checks.proofs.AllBelow.{all-at}
-use Rattle.base_sample.specs.BaseSample.{threshold, wordsSmall, atOrBelow}
+use Rattle.base_sample.specs.BaseSample.{wordsSmall, atOrBelow}
 
 -- ** Words and their order
 
@@ -30,16 +29,16 @@ not-below m n h = by (ltb n m) refl
 pub is-below : (m n : ℕ) → bit (ltb n m) ≡ 1 → leb m n ≡ false
 is-below m n h = lt-leb m n (ltb-true n m (bit-injective (ltb n m) true h))
 
--- counting it: one more, less one where the draw is below it
-pub one-more : (x m n : ℕ) → x + 1 - bit (ltb n m) ≡ x + bit (leb m n)
-one-more x m n = by (ltb n m) refl
+-- a draw is below a threshold, or the threshold is at or below it
+pub one-of-both : (m n : ℕ) → bit (ltb n m) + bit (leb m n) ≡ 1
+one-of-both m n = by (ltb n m) refl
   where
-    by : (t : Bool) → ltb n m ≡ t → x + 1 - bit t ≡ x + bit (leb m n)
-    by true e = rw (lt-leb m n (ltb-true n m e)) (omega arith)
-    by false e = rw (le-leb m n (ltb-false n m e)) (omega arith)
+    by : (t : Bool) → ltb n m ≡ t → bit t + bit (leb m n) ≡ 1
+    by true e = rw (lt-leb m n (ltb-true n m e))
+    by false e = rw (le-leb m n (ltb-false n m e))
 
 -- ** The number at or below a draw
 
-pub at-or-below-next : (cdt : List ℕ) (d i : ℕ) → atOrBelow cdt d (i + 1) ≡ atOrBelow cdt d i + bit (leb (threshold cdt i) d)
+pub at-or-below-next : (thresholds : ℕ → ℕ) (d i : ℕ) → atOrBelow thresholds d (i + 1) ≡ atOrBelow thresholds d i + bit (leb (thresholds i) d)
 unfolding atOrBelow
-at-or-below-next cdt d i = rw (add-one i)
+at-or-below-next thresholds d i = rw (add-one i)

@@ -1,1 +1,2 @@
 pub mod BaseSample
+pub mod HighWordsFirst

@@ -1,12 +1,12 @@
-// The CDT table and the base sample of document 01. The scan does not branch on the draw.
+// The CDT table, its high words first, and the base sample of document 01. The scan does not branch on the draw.
 ghost use mathlib.Core.Path.{_≡_};
 ghost use mathlib.Core.Bool.{true};
 ghost use Prim.Native.Nat.{_+_, _*_, _^_, _≤_, _<_};
-ghost use lib.ListN.{length, getD};
+ghost use lib.ListN.{length, getD, take};
 ghost use lib.Seq.{sets};
 ghost use Rattle.arithmetic.specs.Words.{value62};
 ghost use Rattle.read_list.specs.Entries.{placesUp};
-ghost use Rattle.base_sample.specs.BaseSample.{wordsSmall, neverFalls, isCdt, baseSample};
+ghost use Rattle.base_sample.specs.BaseSample.{threshold, wordsSmall, neverFalls, isCdt, baseSample};
 use arithmetic::Wide62;
 
 // The words of a CDT table.
@@ -46,7 +46,7 @@ fn words_small(cdt: &[u64]) -> bool
 // Whether the thresholds of a CDT table of small words never fall.
 fn never_falls(cdt: &[u64]) -> bool
     requires { ⌜ (length (now cdt) ≡ 20) × (wordsSmall (now cdt) ≡ true) ⌝ }
-    ensures { λ r. ⌜ r ≡ neverFalls (now (cdt .entry)) ⌝ }
+    ensures { λ r. ⌜ r ≡ neverFalls (threshold (now (cdt .entry))) ⌝ }
 {
     let mut i: usize = 0;
     while i < LAST {
@@ -63,15 +63,16 @@ fn never_falls(cdt: &[u64]) -> bool
 // Threshold i of a CDT table.
 fn threshold_at(cdt: &[u64], i: usize) -> Wide62
     requires { ⌜ (length (now cdt) ≡ 20) × (i < 10) ⌝ }
-    ensures { λ r. ⌜ (r .high ≡ getD (now (cdt .entry)) (2 * i) 0) × (r .low ≡ getD (now (cdt .entry)) (2 * i + 1) 0) ⌝ }
+    ensures { λ r. ⌜ (r .high ≡ getD (now (cdt .entry)) i 0) × (r .low ≡ getD (now (cdt .entry)) (10 + i) 0) ⌝ }
 {
     Wide62 {
-        high: cdt[2 * i],
-        low: cdt[2 * i + 1],
+        high: cdt[i],
+        low: cdt[THRESHOLDS + i],
     }
 }
 
-// The base sample of a draw. All twenty words are read, in order, and listed from the index `at` of a list on.
+// The base sample of a draw. All twenty words are read, in order, and listed from the index `at` of a list on: so the high words are held
+// until the low ones come.
 pub fn scan(cdt: &[u64], draw: Wide62, list: &mut [u32], at: usize) -> u64
     requires { ⌜ (length (now cdt) ≡ 20)
         × (wordsSmall (now cdt) ≡ true)
@@ -81,14 +82,43 @@ pub fn scan(cdt: &[u64], draw: Wide62, list: &mut [u32], at: usize) -> u64
         × (r ≤ 10)
         × (now (list .exit) ≡ sets (now (list .entry)) at (placesUp 3 0 20)) ⌝ }
 {
-    let mut x: u64 = 0;
+    let high = high_words(cdt, list, at);
+    at_or_below(cdt, &high, draw, list, at + THRESHOLDS)
+}
+
+// The high words of a CDT table, listed from the index `at` of a list on.
+fn high_words(cdt: &[u64], list: &mut [u32], at: usize) -> [u64; THRESHOLDS]
+    requires { ⌜ (length (now cdt) ≡ 20) × (at + 10 ≤ length (now list)) ⌝ }
+    ensures { λ r. ⌜ (r ≡ take 10 (now (cdt .entry)))
+        × (now (list .exit) ≡ sets (now (list .entry)) at (placesUp 3 0 10)) ⌝ }
+{
+    let mut high = [0u64; THRESHOLDS];
+    let mut place: usize = 0;
+    while place < THRESHOLDS {
+        high[place] = read_list::listed_word(cdt, read_list::CDT, place, list, at + place);
+        place += 1;
+    }
+    high
+}
+
+// The number of thresholds at or below a draw, where these are the table's high words; its low words are listed from the index `at` of a
+// list on.
+fn at_or_below(cdt: &[u64], high: &[u64], draw: Wide62, list: &mut [u32], at: usize) -> u64
+    requires { ⌜ (length (now cdt) ≡ 20)
+        × (wordsSmall (now cdt) ≡ true)
+        × (now high ≡ take 10 (now cdt))
+        × (draw .low < 2 ^ 62)
+        × (at + 10 ≤ length (now list)) ⌝ }
+    ensures { λ r. ⌜ (r ≡ baseSample (now (cdt .entry)) (value62 draw))
+        × (r ≤ 10)
+        × (now (list .exit) ≡ sets (now (list .entry)) at (placesUp 3 10 10)) ⌝ }
+{
+    let mut x = THRESHOLDS as u64;
     let mut i: usize = 0;
     while i < THRESHOLDS {
-        let place = 2 * i;
-        let here = at + place;
-        let high = read_list::listed_word(cdt, read_list::CDT, place, list, here);
-        let low = read_list::listed_word(cdt, read_list::CDT, place + 1, list, here + 1);
-        x = x + 1 - arithmetic::less62(draw, Wide62 { high, low });
+        let low = read_list::listed_word(cdt, read_list::CDT, THRESHOLDS + i, list, at + i);
+        let threshold = Wide62 { high: high[i], low };
+        x -= arithmetic::less62(draw, threshold);
         i += 1;
     }
     x

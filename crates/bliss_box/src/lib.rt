@@ -23,7 +23,7 @@ use session::Session;
 pub extern "C" fn bliss_version() -> u32
     ensures { λ r. ⌜ r ≡ version ⌝ }
 {
-    700
+    800
 }
 
 // Opens a session of degree n.

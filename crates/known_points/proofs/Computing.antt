@@ -9,7 +9,8 @@ use Rattle.bits.specs.Bits.{digits, number, zeros, bitAt as bitOf, bytesFrom, p
 use Rattle.bits.specs.Items.{joined, given, stands, formIf, itemsOf, passes, itemsAt, behind, eachAt}
 use Rattle.largest.specs.Largest.{insert, falling, total, largestSum}
 use Rattle.base_sample.specs.BaseSample.{wordsSmall, neverFalls, isCdt, atOrBelow, baseSample}
-use Rattle.known_points.specs.EvenThresholds.{thresholdsFrom, evenThresholds}
+use Rattle.base_sample.specs.HighWordsFirst.{isCdtBefore, baseSampleBefore, firsts, seconds, reordered, inTurn, restored}
+use Rattle.known_points.specs.EvenThresholds.{stepsFrom, evenThresholds}
 use Rattle.known_points.specs.DefaultCdt.{cdt215}
 use Rattle.attempt.specs.Attempt.{accepts, sample, bitAt, sampleAt, attemptEntries}
 use Rattle.sampler.specs.Draw.{bitsFrom, drawBits, accepted, samplesFrom, drawY, entriesFrom, drawEntries, sampledBy}
@@ -17,7 +18,7 @@ use Rattle.challenge.specs.Challenge.{positionsBelow, ascends, arePositions, is
 use Rattle.challenge_product.specs.Product.{termAt, outputAt, outputsFrom, product, outputEntries, outputEntriesFrom, productEntries}
 use Rattle.acceptance.specs.Acceptance.{coshPasses, allPass, acceptsBy, acceptanceEntries}
 use Rattle.response.specs.Response.{responseOf, responseZ, isBounded, measuresOf, responseBit, respondEntries, respondedBy}
-use Rattle.refusals.specs.Refusals.{openRefusal, drawRefusal, noiseRefusal, respondRefusal, respondRefusalBefore}
+use Rattle.refusals.specs.Refusals.{openRefusal, drawRefusal, drawRefusalBefore, noiseRefusal, respondRefusal, respondRefusalBefore}
 use Rattle.session.specs.Calls.{opened, refusalOfDraw, bitsOfDraw, drawRefused, drawServed, drawLeft}
 use Rattle.session.specs.Calls.{refusalOfRespond, bitOfRespond, zOfRespond, respondRefused, respondServed, respondLeft}
 use Rattle.record.specs.Record.{valueBits, challengeBits, mapBits, fieldBits, recordOf}
@@ -31,12 +32,12 @@ use Rattle.histories.specs.Histories.{leftBy, eventOf}
 
 -- the polynomial table, the CDT table of the known points, and the one that hosts lend
 unfoldable pub tables : Unit {0}
-unfolding polynomial polynomialFrom factorial evenThresholds thresholdsFrom cdt215
+unfolding polynomial polynomialFrom factorial evenThresholds stepsFrom cdt215
 tables = tt
 
 unfoldable pub refusals : Unit {0}
-unfolding openRefusal drawRefusal respondRefusal respondRefusalBefore noiseRefusal firstRefusal isDegree among isCdt wordsSmall
-    neverFalls allBelow isPolynomial sameWords isChallenge arePositions positionsBelow ascends allWithin
+unfolding openRefusal drawRefusal drawRefusalBefore respondRefusal respondRefusalBefore noiseRefusal firstRefusal isDegree among
+    isCdt isCdtBefore wordsSmall neverFalls allBelow isPolynomial sameWords isChallenge arePositions positionsBelow ascends allWithin
 refusals = tt
 
 unfoldable pub exponentials : Unit {0}
@@ -47,6 +48,11 @@ exponentials = tt
 unfoldable pub attempts : Unit {0}
 unfolding baseSample atOrBelow bitAt accepts sampleAt sample
 attempts = tt
+
+-- the two orders of a CDT table's words
+unfoldable pub orders : Unit {0}
+unfolding baseSampleBefore firsts seconds reordered inTurn restored
+orders = tt
 
 -- sums of squares and of products
 unfoldable pub sums : Unit {0}

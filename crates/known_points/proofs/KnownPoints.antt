@@ -10,13 +10,13 @@ use lib.Dec.{leb, ltb, eqb}
 use lib.IntN.{ℤ, pos, negsuc}
 use borrow.Author.Tests.{lt-ltb, le-ltb, lt-leb}
 use Rattle.signed.specs.Vectors.{squareSum}
-use Rattle.base_sample.specs.BaseSample.{neverFalls, baseSample}
+use Rattle.base_sample.specs.BaseSample.{threshold, neverFalls, baseSample}
 use Rattle.known_points.specs.EvenThresholds.{evenThresholds}
 use Rattle.base_sample.proofs.BaseSampleLaws.{rising, base-sample-exactly, base-sample-rises}
 use Rattle.attempt.specs.Attempt.{accepts, sample}
 use Rattle.acceptance.specs.Acceptance.{coshPasses, allPass, acceptsBy}
 use Rattle.response.specs.Response.{responseOf, responseZ, measuresOf, responseBit}
-use Rattle.known_points.specs.KnownPoints.{e, oneHighFrom, oneHigh, KnownPoints}
+use Rattle.known_points.specs.KnownPoints.{e, oneHigh, KnownPoints}
 use Rattle.known_points.proofs.Computing.{tables, refusals, exponentials, attempts, responses}
 
 -- ** Words
@@ -48,10 +48,10 @@ bit-0-of-odd rest = omega arith
 
 -- ** Base sample
 
-at-most-10 : (cdt : List ℕ) (d : ℕ) → neverFalls cdt ≡ true → baseSample cdt d ≤ 10
+at-most-10 : (cdt : List ℕ) (d : ℕ) → neverFalls (threshold cdt) ≡ true → baseSample cdt d ≤ 10
 at-most-10 cdt d never = base-sample-exactly cdt d (baseSample cdt d) (rising cdt never) .0 refl .at-most
 
-ten-above : (cdt : List ℕ) (d d′ : ℕ) → neverFalls cdt ≡ true → baseSample cdt d ≡ 10 → d ≤ d′ → baseSample cdt d′ ≡ 10
+ten-above : (cdt : List ℕ) (d d′ : ℕ) → neverFalls (threshold cdt) ≡ true → baseSample cdt d ≡ 10 → d ≤ d′ → baseSample cdt d′ ≡ 10
 ten-above cdt d d′ never ten h = omega (arith, at-most-10 cdt d′ never, base-sample-rises cdt d d′ h)
 
 zero-below : (cdt : List ℕ) (d d′ : ℕ) → baseSample cdt d′ ≡ 0 → d ≤ d′ → baseSample cdt d ≡ 0
@@ -89,7 +89,7 @@ z-too-large by n y sc words h = rw (lt-leb (squareSum (responseZ y sc words)) 16
 -- ** The points
 
 pub known-points : KnownPoints
-unfolding tables refusals exponentials attempts responses oneHigh oneHighFrom
+unfolding tables refusals exponentials attempts responses oneHigh
 known-points = record {
   lowest-d = refl;
   d-below-first = refl;

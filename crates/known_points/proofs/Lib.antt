@@ -7,6 +7,7 @@ pub mod CoefficientNumbers
 pub mod OpeningRefusals
 pub mod DrawRefusals
 pub mod DefaultCdt
+pub mod WordOrder
 pub mod RespondRefusals
 pub mod KeyNumbers
 pub mod RecordNumbers

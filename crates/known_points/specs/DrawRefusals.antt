@@ -31,9 +31,9 @@ pub record DrawRefusals : Type 0 where
   -- a y of 7 values
   pub refusal-2-y : drawRefusal 4 8 evenThresholds polynomial 32 7 370 ≡ 2
   -- a high word of 2 ^ 62
-  pub refusal-3-high : drawOf4 8 (set evenThresholds 18 (2 ^ 62)) polynomial 32 370 ≡ 3
+  pub refusal-3-high : drawOf4 8 (set evenThresholds 9 (2 ^ 62)) polynomial 32 370 ≡ 3
   -- a last threshold that falls; equal ones are served
-  pub refusal-3-falls : drawOf4 8 (set evenThresholds 18 (9 * 2 ^ 40 - 1)) polynomial 32 370 ≡ 3
+  pub refusal-3-falls : drawOf4 8 (set evenThresholds 9 (9 * 2 ^ 40 - 1)) polynomial 32 370 ≡ 3
   pub equal-thresholds : drawOf4 8 (replicate 20 0) polynomial 32 370 ≡ 0
   --
   -- ** Of several that apply, the first

@@ -4,13 +4,13 @@
 use mathlib.Core.Path.{_≡_}
 use mathlib.Core.Bool.{Bool, true, false}
 use mathlib.Core.List.{List, [], _∷_, _++_}
-use Prim.Native.Nat.{ℕ, zero, suc, _+_, _-_, _*_, _^_, _<_}
+use Prim.Native.Nat.{ℕ, _+_, _-_, _*_, _^_, _<_}
 use lib.IntN.{ℤ, pos, negsuc}
 use lib.ListN.{take, drop, replicate}
 use Rattle.signed.specs.Vectors.{squareSum}
 use Rattle.exponential.specs.Exponential.{polynomial, reciprocal, divisor, limit, attemptLimit, exp, expWith, expOrRefusal}
 use Rattle.base_sample.specs.BaseSample.{isCdt, baseSample}
-use Rattle.known_points.specs.EvenThresholds.{evenThresholds}
+use Rattle.known_points.specs.EvenThresholds.{stepsFrom, evenThresholds}
 use Rattle.attempt.specs.Attempt.{size, exponent, drawAt, lowBitsAt, negativeAt, bitAt, sampleAt}
 use Rattle.challenge_product.specs.Product.{product}
 use Rattle.acceptance.specs.Acceptance.{squaresLimit, coshPasses}
@@ -30,14 +30,9 @@ four word₀ word₁ word₂ word₃ = word₀ ∷ word₁ ∷ word₂ ∷ word�
 abbrev pub baseSampleBy : (cdt : List ℕ) (word₀ word₁ : ℕ) → ℕ
 baseSampleBy cdt word₀ word₁ = baseSample cdt (drawAt (word₀ ∷ word₁ ∷ []) 0)
 
--- count thresholds of the high word 7, from threshold i on: its low word is i * 2 ^ 40
-unfoldable pub oneHighFrom : (i count : ℕ) → List ℕ
-oneHighFrom i zero = []
-oneHighFrom i (suc count) = 7 ∷ i * 2 ^ 40 ∷ oneHighFrom (suc i) count
-
--- ten thresholds that the low words alone tell apart
+-- ten thresholds that the low words alone tell apart: the i-th, from 1, is high 7, low i * 2 ^ 40
 unfoldable pub oneHigh : List ℕ
-oneHigh = oneHighFrom 1 10
+oneHigh = replicate 10 7 ++ stepsFrom 1 10
 
 -- the three words of a response
 abbrev pub three : (word₀ word₁ word₂ : ℕ) → List ℕ

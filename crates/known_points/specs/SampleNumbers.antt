@@ -15,7 +15,7 @@ thresholdsOf cdt i (suc count) = threshold cdt i ∷ thresholdsOf cdt (suc i) co
 pub record SampleNumbers : Type 0 where
   -- ten thresholds, each by its own two words: the words are 0 to 19
   pub ten-thresholds : thresholdsOf (placesUp 0 0 20) 0 10
-      ≡ 1 ∷ (2 * 2 ^ 62 + 3) ∷ (4 * 2 ^ 62 + 5) ∷ (6 * 2 ^ 62 + 7) ∷ (8 * 2 ^ 62 + 9)
-      ∷ (10 * 2 ^ 62 + 11) ∷ (12 * 2 ^ 62 + 13) ∷ (14 * 2 ^ 62 + 15) ∷ (16 * 2 ^ 62 + 17) ∷ (18 * 2 ^ 62 + 19) ∷ []
+      ≡ 10 ∷ (1 * 2 ^ 62 + 11) ∷ (2 * 2 ^ 62 + 12) ∷ (3 * 2 ^ 62 + 13) ∷ (4 * 2 ^ 62 + 14)
+      ∷ (5 * 2 ^ 62 + 15) ∷ (6 * 2 ^ 62 + 16) ∷ (7 * 2 ^ 62 + 17) ∷ (8 * 2 ^ 62 + 18) ∷ (9 * 2 ^ 62 + 19) ∷ []
   -- x goes to 10 and b to 255: the largest size of a sample is that of a value of y
   pub noise-bound : noiseBound ≡ size 10 255

@@ -3,6 +3,7 @@ use mathlib.Core.Path.{_≡_, refl, sym, ap, _∙_}
 use mathlib.Core.List.{List, [], _∷_, _++_}
 use Prim.Native.Nat.{ℕ, zero, suc, _+_, _-_, _≤_, _<_}
 use native.Mathlib.Nat.{not-suc-le-zero, le-of-suc-le-suc, add-zero, add-suc, suc-add}
+use native.Mathlib.Numerals.{add-one}
 use native.Mathlib.Omega.{arith}
 use lib.ListN.{length, getD, set}
 use lib.Seq.{sets}
@@ -26,9 +27,9 @@ placesUp-snoc kind place (suc count) =
 -- one more is written
 pub placesUp-more : (kind place count : ℕ) (list : List ℕ) (at : ℕ) {list₁ list₂ : List ℕ} {i p : ℕ}
     → list₁ ≡ sets list at (placesUp kind place count) → list₂ ≡ set list₁ i (entry kind p)
-    → i ≡ at + count → p ≡ place + count → list₂ ≡ sets list at (placesUp kind place (suc count))
+    → i ≡ at + count → p ≡ place + count → list₂ ≡ sets list at (placesUp kind place (count + 1))
 placesUp-more kind place count list at {i = i} {p = p} e₁ e₂ ei ep =
-    rw (← placesUp-snoc kind place count, ← ep)
+    rw (add-one count, ← placesUp-snoc kind place count, ← ep)
     (written-behind list at i (placesUp kind place count) (entry kind p ∷ []) e₁ e₂ (omega (arith, ei, length-placesUp kind place count)))
 
 pub places-up-at : (kind place count i : ℕ) → i < count → getD (placesUp kind place count) i 0 ≡ entry kind (place + i)

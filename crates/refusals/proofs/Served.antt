@@ -13,7 +13,7 @@ use Rattle.checks.proofs.JoinedTests.{both-true}
 use Rattle.checks.proofs.Lines.{numbered, testOf, passes}
 use Rattle.exponential.specs.Exponential.{polynomial}
 use Rattle.exponential.proofs.Table.{polynomial-of}
-use Rattle.base_sample.specs.BaseSample.{wordsSmall, neverFalls, isCdt}
+use Rattle.base_sample.specs.BaseSample.{threshold, wordsSmall, neverFalls, isCdt}
 use Rattle.challenge.proofs.Positions.{Challenge, positions-of}
 use Rattle.challenge_product.specs.Product.{keyBound}
 use Rattle.sampler.specs.Draw.{drawListLength}
@@ -40,7 +40,7 @@ draw-served n limit cdt table words y list h =
     record {
       degree = p 1;
       twenty = eqb-true (length cdt) 20 (sizes .0);
-      small = both-true (wordsSmall cdt) (neverFalls cdt) (p 3) .0;
+      small = both-true (wordsSmall cdt) (neverFalls (threshold cdt)) (p 3) .0;
       is-polynomial = polynomial-of table (p 4);
       both = eqb-true y (2 * n) (both-true (eqb (length table) 21) _ (sizes .1) .1);
       limit-high = leb-true limit (32 * n) (both-true (leb (2 * n) limit) _ (p 5) .1);

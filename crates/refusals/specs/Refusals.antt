@@ -9,6 +9,7 @@ use Rattle.signed.specs.Vectors.{allWithin}
 use Rattle.checks.specs.Checks.{isDegree, Line, line, firstRefusal}
 use Rattle.exponential.specs.Exponential.{isPolynomial}
 use Rattle.base_sample.specs.BaseSample.{isCdt}
+use Rattle.base_sample.specs.HighWordsFirst.{isCdtBefore}
 use Rattle.sampler.specs.Draw.{drawListLength}
 use Rattle.challenge.specs.Challenge.{arePositions, isChallenge}
 use Rattle.challenge_product.specs.Product.{keyBound}
@@ -18,20 +19,28 @@ use Rattle.response.specs.Response.{noiseBound, respondListLength}
 unfoldable pub openRefusal : (n : ℕ) → ℕ
 openRefusal n = firstRefusal (line 1 (isDegree n) ∷ [])
 
--- drawing; of the words, y and the list it looks at the lengths alone
-abbrev pub drawTests : (n limit : ℕ) (cdt polynomial : List ℕ) (words y list : ℕ) → List Line
-drawTests n limit cdt polynomial words y list =
+-- drawing, where this tells which tables of 20 words are CDT tables; of the words, y and the list it looks at the lengths alone
+abbrev pub drawTestsBy : (isTable : List ℕ → Bool) (n limit : ℕ) (cdt polynomial : List ℕ) (words y list : ℕ) → List Line
+drawTestsBy isTable n limit cdt polynomial words y list =
     line 1 (isDegree n)
     ∷ line 2 (eqb (length cdt) 20 && (eqb (length polynomial) 21 && eqb y (2 * n)))
-    ∷ line 3 (isCdt cdt)
+    ∷ line 3 (isTable cdt)
     ∷ line 4 (isPolynomial polynomial)
     ∷ line 5 (leb (2 * n) limit && leb limit (32 * n))
     ∷ line 7 (leb (4 * limit) words)
     ∷ line 8 (leb (drawListLength limit) list)
     ∷ []
 
+-- the high words of a table come first, by request S-6
+abbrev pub drawTests : (n limit : ℕ) (cdt polynomial : List ℕ) (words y list : ℕ) → List Line
+drawTests = drawTestsBy isCdt
+
 unfoldable pub drawRefusal : (n limit : ℕ) (cdt polynomial : List ℕ) (words y list : ℕ) → ℕ
 drawRefusal n limit cdt polynomial words y list = firstRefusal (drawTests n limit cdt polynomial words y list)
+
+-- document 01's, by its order of a table's words
+unfoldable pub drawRefusalBefore : (n limit : ℕ) (cdt polynomial : List ℕ) (words y list : ℕ) → ℕ
+drawRefusalBefore n limit cdt polynomial words y list = firstRefusal (drawTestsBy isCdtBefore n limit cdt polynomial words y list)
 
 -- responding, as to y and the key: nothing is drawn, or a value is out of range
 abbrev pub noiseTests : (drawn : Bool) (key y : List ℤ) → List Line

@@ -3,3 +3,4 @@ pub mod CallLaws
 pub mod ByRule
 pub mod Coefficients
 pub mod Blank
+pub mod HighWordsFirst

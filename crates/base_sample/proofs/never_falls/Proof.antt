@@ -58,8 +58,8 @@ less62-requires c κs =
     )
 
 -- the comparison of threshold i with the next, as the definition has it
-falls : (cdt : List ℕ) (i h l h′ l′ r : ℕ) → h ≡ getD cdt (2 * i) 0 → l ≡ getD cdt (2 * i + 1) 0 → h′ ≡ getD cdt (2 * (i + 1)) 0
-    → l′ ≡ getD cdt (2 * (i + 1) + 1) 0
+falls : (cdt : List ℕ) (i h l h′ l′ r : ℕ) → h ≡ getD cdt i 0 → l ≡ getD cdt (10 + i) 0 → h′ ≡ getD cdt (i + 1) 0
+    → l′ ≡ getD cdt (10 + (i + 1)) 0
     → r ≡ bit (ltb (h′ * 2 ^ 62 + l′) (h * 2 ^ 62 + l)) → r ≡ bit (ltb (threshold cdt (suc i)) (threshold cdt i))
 falls cdt i h l h′ l′ r e₁ e₂ e₃ e₄ e = e ∙ rw (e₁, e₂, e₃, e₄, add-one i)
 
