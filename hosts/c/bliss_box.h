@@ -54,8 +54,8 @@ extern "C" {
  * C99 has no static assertions. */
 #define BLISS_LAYOUT(name, claim) typedef char bliss_layout_of_##name[(claim) ? 1 : -1]
 
-/* The version of this header, 10000 * major + 100 * minor + patch: 0.7.0. */
-#define BLISS_BOX_VERSION 700
+/* The version of this header, 10000 * major + 100 * minor + patch: 0.8.0. */
+#define BLISS_BOX_VERSION 800
 
 /* The version of the archive, by the same rule. A host compares it with BLISS_BOX_VERSION at its start, before any other call,
  * and ends where they differ: a session travels by value, and an archive of another version may take its bytes for something
@@ -167,21 +167,22 @@ bliss_opened bliss_open(size_t n);
 #define BLISS_DRAW_WORDS(limit) (4 * BLISS_CAST(size_t, limit))
 #define BLISS_DRAW_ENTRIES(limit) (46 * BLISS_CAST(size_t, limit) + 2)
 
-/* The CDT table for deviation 215: ten thresholds, each a high word and a low word. Threshold i is the nearest whole number to
- * 2^124 times the chance that the base sample is below i, where j has the weight exp(-65536 j^2 / 92450), j = 0 to 10. */
+/* The CDT table for deviation 215: the high words of ten thresholds, and then their ten low words. Threshold i, high * 2^62 + low,
+ * is the nearest whole number to 2^124 times the chance that the base sample is below i, where j has the weight
+ * exp(-65536 j^2 / 92450), j = 0 to 10. */
 #define BLISS_CDT_WORDS 20
 #define BLISS_CDT_215                                                             \
     {                                                                             \
-        UINT64_C(2970318119077987601), UINT64_C(139537425007862173),              \
-            UINT64_C(4432293587828485953), UINT64_C(2218333992557025118),         \
-            UINT64_C(4606615286148199816), UINT64_C(2870311867292663647),         \
-            UINT64_C(4611650721831976652), UINT64_C(3044458817194566665),         \
-            UINT64_C(4611685958667561403), UINT64_C(456626370962175178),          \
-            UINT64_C(4611686018402853103), UINT64_C(3423392530604428891),         \
-            UINT64_C(4611686018427385463), UINT64_C(918063073876867824),          \
-            UINT64_C(4611686018427387903), UINT64_C(4340391528176902920),         \
-            UINT64_C(4611686018427387903), UINT64_C(4611684434372927295),         \
-            UINT64_C(4611686018427387903), UINT64_C(4611686018425147250)          \
+        UINT64_C(2970318119077987601), UINT64_C(4432293587828485953),             \
+            UINT64_C(4606615286148199816), UINT64_C(4611650721831976652),         \
+            UINT64_C(4611685958667561403), UINT64_C(4611686018402853103),         \
+            UINT64_C(4611686018427385463), UINT64_C(4611686018427387903),         \
+            UINT64_C(4611686018427387903), UINT64_C(4611686018427387903),         \
+            UINT64_C(139537425007862173), UINT64_C(2218333992557025118),          \
+            UINT64_C(2870311867292663647), UINT64_C(3044458817194566665),         \
+            UINT64_C(456626370962175178), UINT64_C(3423392530604428891),          \
+            UINT64_C(918063073876867824), UINT64_C(4340391528176902920),          \
+            UINT64_C(4611684434372927295), UINT64_C(4611686018425147250)          \
     }
 
 /* What a draw counted; all 0 where it is refused. */

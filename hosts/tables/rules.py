@@ -12,7 +12,8 @@ def polynomial():
 
 def cdt(deviation):
     """Threshold i, from 1 to 10, is the nearest whole number to 2^124 times the chance that the base sample is below i, where j has the
-    weight exp(-65536 j^2 / (2 deviation^2)), j = 0 to 10; and at most 2^124 - 1. Each is a high and a low word of 62 bits."""
+    weight exp(-65536 j^2 / (2 deviation^2)), j = 0 to 10; and at most 2^124 - 1. The high words come first, and then the low words, all of
+    62 bits."""
     lower, upper = zip(*(exp_minus(65536 * j**2, 2 * deviation**2) for j in range(11)))
     thresholds = [chance(lower[:i], upper[i:]) for i in range(1, 11)]
     if thresholds != [chance(upper[:i], lower[i:]) for i in range(1, 11)]:
@@ -42,4 +43,4 @@ def nearest(numerator, denominator):
 
 
 def words(thresholds):
-    return [word for threshold in thresholds for word in divmod(threshold, 2**62)]
+    return [threshold // 2**62 for threshold in thresholds] + [threshold % 2**62 for threshold in thresholds]

@@ -2,8 +2,8 @@
 
 usage: wrong.py
 
-Each digit is replaced by each other digit, words are dropped, doubled and swapped, the thresholds of a CDT are rounded to four and
-to seven decimals, and a table gets another name. No file is changed.
+Each digit is replaced by each other digit, words are dropped, doubled and swapped, those of a CDT are put into other orders and its
+thresholds rounded to four and to seven decimals, and a table gets another name. No file is changed.
 """
 from itertools import combinations
 import sys
@@ -32,10 +32,17 @@ def wrong_words(right):
             yield swapped
 
 
+def other_orders(cdt):
+    """The high and the low word of each threshold together, and the low words first."""
+    high, low = cdt[:10], cdt[10:]
+    yield [word for words in zip(high, low) for word in words]
+    yield low + high
+
+
 def rounded(cdt, decimals):
     """A CDT that went through a sheet: so many decimals are left of each chance."""
     unit = 10**decimals
-    thresholds = [2**62 * high + low for high, low in zip(cdt[::2], cdt[1::2])]
+    thresholds = [2**62 * high + low for high, low in zip(cdt[:10], cdt[10:])]
     chances = [rules.nearest(threshold * unit, 2**124) for threshold in thresholds]
     return rules.words([min(rules.nearest(chance * 2**124, unit), 2**124 - 1) for chance in chances])
 
@@ -46,8 +53,8 @@ def wrong_tables(rule):
     yield from wrong_digits(right)
     yield from wrong_words(right)
     if rule != shipped.POLYNOMIAL:
-        for decimals in 4, 7:
-            yield [str(number) for number in rounded(rule, decimals)]
+        for cdt in (*other_orders(rule), rounded(rule, 4), rounded(rule, 7)):
+            yield [str(number) for number in cdt]
 
 
 def with_words(table, words):

@@ -43,7 +43,7 @@ pub struct DrawOptions {
 
     /// The CDT [default: the built-in one, for deviation 215]
     ///
-    /// The file holds ten thresholds that never fall, each a high word and a low word, both below 2^62.
+    /// The file holds ten thresholds that never fall: their ten high words, and then their ten low words, all below 2^62.
     #[arg(long, value_name = "FILE", value_hint = ValueHint::FilePath)]
     cdt: Option<InputPath>,
 

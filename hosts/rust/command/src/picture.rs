@@ -1,7 +1,9 @@
 //! A picture of noise in the terminal: how many samples fall in each range, beside the counts that are expected. Floats serve the
 //! picture alone: the box has none.
 
-use bliss_box::{exponential, CDT};
+use std::array;
+
+use bliss_box::{exponential, thresholds, CDT};
 
 /// The values in a range. The number is odd, so that 0 is in the middle of the middle range.
 const WIDTH: i32 = 65;
@@ -112,16 +114,10 @@ fn weights_of_samples() -> Vec<(i32, f64)> {
 
 /// The chances of the base samples 0 to 10: the steps from one threshold to the next.
 fn chances_of_base_samples() -> [f64; 11] {
-    let mut thresholds = [0; 12];
-    for (threshold, words) in thresholds[1..].iter_mut().zip(CDT.chunks_exact(2)) {
-        *threshold = (u128::from(words[0]) << 62) + u128::from(words[1]);
-    }
-    thresholds[11] = 1 << 124;
-    let mut chances = [0.0; 11];
-    for (x, chance) in chances.iter_mut().enumerate() {
-        *chance = (thresholds[x + 1] - thresholds[x]) as f64 / ONE / ONE;
-    }
-    chances
+    let mut ends = [0; 12];
+    ends[1..11].copy_from_slice(&thresholds(&CDT));
+    ends[11] = 1 << 124;
+    array::from_fn(|x| (ends[x + 1] - ends[x]) as f64 / ONE / ONE)
 }
 
 #[cfg(test)]

@@ -1,7 +1,7 @@
 //! Why the box refused a call, said of what the command line lent to it. The box says which rule was broken; where it was broken
 //! is looked for here, after the refusal, and only in what is public.
 
-use bliss_box::{challenge_limit, Refusal, VALUE_LIMIT};
+use bliss_box::{challenge_limit, thresholds, Refusal, VALUE_LIMIT};
 
 use crate::ending::Failure;
 use crate::files::Table;
@@ -42,22 +42,23 @@ pub fn wrong_length<T: Whole>(table: &Table<T>, wanted: usize) -> Option<Breach>
     Some(Breach::new(table.name(), format!("its length is {length}, and {wanted} is wanted")))
 }
 
-/// Refusal 3: a word of the CDT that is too large, or a threshold that falls.
+/// Refusal 3: a word of the CDT that is too large, or a threshold that falls. Files that were made for the order of before, a high
+/// word and a low word in turn, are still about.
 pub fn broken_cdt(cdt: &Table<u64>) -> Option<Breach> {
-    large_word(cdt).or_else(|| falling_threshold(cdt))
+    let (index, problem) = large_word(cdt).or_else(|| falling_threshold(cdt))?;
+    Some(Breach::on_line(cdt, index, format!("{problem}; the ten high words come first now, and then the ten low words")))
 }
 
-fn large_word(cdt: &Table<u64>) -> Option<Breach> {
+fn large_word(cdt: &Table<u64>) -> Option<(usize, String)> {
     let index = cdt.numbers().iter().position(|word| *word >= 1 << 62)?;
-    Some(Breach::on_line(cdt, index, "this word is 2^62 or more".into()))
+    Some((index, "this word is 2^62 or more".into()))
 }
 
-fn falling_threshold(cdt: &Table<u64>) -> Option<Breach> {
-    let thresholds: Vec<&[u64]> = cdt.numbers().chunks_exact(2).collect();
+fn falling_threshold(cdt: &Table<u64>) -> Option<(usize, String)> {
+    let thresholds = thresholds(cdt.numbers().try_into().ok()?);
     let before = thresholds.windows(2).position(|pair| pair[1] < pair[0])?;
-    let named = |i: usize| format!("threshold {} (lines {} and {})", i + 1, cdt.line(2 * i), cdt.line(2 * i + 1));
-    let problem = format!("{} is below {}", named(before + 1), named(before));
-    Some(Breach::on_line(cdt, 2 * (before + 1), problem))
+    let named = |i: usize| format!("threshold {} (lines {} and {})", i + 1, cdt.line(i), cdt.line(10 + i));
+    Some((before + 1, format!("{} is below {}", named(before + 1), named(before))))
 }
 
 /// Refusal 6: a challenge with too many positions, a position too large, or one that does not ascend.

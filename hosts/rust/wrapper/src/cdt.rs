@@ -8,8 +8,8 @@ use core::ops::Add;
 
 use natural::Natural;
 
-/// The CDT table of a deviation from 107 to 271: ten thresholds, each a high word and a low word of 62 bits. Threshold i is the
-/// nearest whole number to 2^124 times the chance that the base sample is below i, where j has the weight
+/// The CDT table of a deviation from 107 to 271: the high words of ten thresholds, and then their ten low words, all of 62 bits.
+/// Threshold i is the nearest whole number to 2^124 times the chance that the base sample is below i, where j has the weight
 /// exp(-65536 j² / (2 × deviation²)), j = 0 to 10. A threshold of 2^124 itself is one less: a table can't hold it.
 ///
 /// ```
@@ -25,10 +25,11 @@ pub fn cdt(deviation: u32) -> Option<[u64; 20]> {
     }
     let weights = weights(u64::from(deviation));
     let mut table = [0; 20];
-    for (i, words) in (1..).zip(table.chunks_exact_mut(2)) {
-        let threshold = threshold(total(&weights[..i]), total(&weights[i..])).min((1 << 124) - 1);
-        words[0] = (threshold >> 62) as u64;
-        words[1] = (threshold % (1 << 62)) as u64;
+    for i in 0..10 {
+        let (below, rest) = weights.split_at(i + 1);
+        let threshold = threshold(total(below), total(rest)).min((1 << 124) - 1);
+        table[i] = (threshold >> 62) as u64;
+        table[10 + i] = (threshold % (1 << 62)) as u64;
     }
     Some(table)
 }
@@ -108,7 +109,7 @@ fn nearest(part: Natural, whole: Natural) -> u128 {
 #[cfg(test)]
 mod tests {
     use super::*;
-    use crate::CDT;
+    use crate::{thresholds, CDT};
 
     #[test]
     fn the_default_table_is_that_of_deviation_215() {
@@ -127,18 +128,16 @@ mod tests {
         for deviation in 107..=271 {
             let table = cdt(deviation).unwrap();
             assert!(table.iter().all(|&word| word < 1 << 62), "{deviation}: {table:?}");
-            let mut pairs = table.chunks_exact(2).zip(table[2..].chunks_exact(2));
-            assert!(pairs.all(|(threshold, next)| threshold <= next), "{deviation}: {table:?}");
+            assert!(thresholds(&table).windows(2).all(|pair| pair[0] <= pair[1]), "{deviation}: {table:?}");
         }
     }
 
     #[test]
     fn a_threshold_that_no_table_can_hold_is_cut() {
         let most = (1 << 62) - 1;
-        assert_eq!(
-            cdt(107).unwrap()[8..],
-            [most, 4611686018425693971, most, most, most, most, most, most, most, most, most, most]
-        );
+        let table = cdt(107).unwrap();
+        assert_eq!(table[4..10], [most; 6]);
+        assert_eq!(table[14..], [4611686018425693971, most, most, most, most, most]);
     }
 
     /// The upper end is above e cut to units, so that ends that are both cut, or both rounded up, are noticed.

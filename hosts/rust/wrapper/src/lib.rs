@@ -86,7 +86,7 @@ pub use refusal::Refusal;
 pub use respond::{challenge_limit, respond_list_length, Outcome, Responded, COEFFICIENT_LIMIT, RESPOND_WORDS};
 pub use secret::Secret;
 pub use session::Session;
-pub use tables::{CDT, POLYNOMIAL};
+pub use tables::{thresholds, CDT, POLYNOMIAL};
 
 // The bound of a secret's values, for a host that has to name it and has no zeroize of its own.
 pub use zeroize::DefaultIsZeroes;

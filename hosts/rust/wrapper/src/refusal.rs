@@ -47,7 +47,7 @@ macro_rules! refusals {
 refusals! {
     1 Degree: "the degree is not a power of two from 4 to 1024",
     2 Lengths: "the CDT is not 20 words, the polynomial table not 21, y, z or the key not 2n, or z1 or z2 of a record not n",
-    3 Cdt: "a word of the CDT is 2^62 or more, or a threshold is below the one before",
+    3 Cdt: "a word of the CDT, whose ten high words come first, is 2^62 or more, or a threshold is below the one before",
     4 Polynomial: "an entry of the polynomial table is not the whole part of 2^62 / j!",
     5 Limit: "the limit is outside 2n to 32n attempts",
     6 Challenge: "the challenge is empty, longer than 64 or than n, has a position of n or more, or does not ascend strictly",

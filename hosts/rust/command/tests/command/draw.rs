@@ -23,7 +23,7 @@ fn draws_are_the_librarys() {
 
 #[test]
 fn draws_take_limit_and_cdt() {
-    let cdt: Vec<u64> = (1..=10).flat_map(|i| [i << 58, 7]).collect();
+    let cdt: Vec<u64> = (1..=10).map(|i| i << 58).chain([7; 10]).collect();
     let words = random_words(1, draw_word_count(100));
     let (cdt_file, words_file) = (file("other-cdt", lines(&cdt)), file("other-words", lines(&words)));
     let with = ["draw", "--degree", "4", "--words", &words_file];

@@ -14,7 +14,7 @@ fn a_list_is_explained_entry_by_entry() {
     assert_eq!(text.lines().filter(numbered).count(), 462 + 1, "each entry, and the accept bits");
     assert!(text.ends_with("The draw of degree 4 is full after 10 attempts. Accept bits:\n    1101101111\n"), "{text}");
     assert!(text.contains("\n     49  (2, 5)        word 5: low half of attempt 1's draw\n"), "{text}");
-    assert!(text.contains("\n     12  (3, 6)        CDT word 6: threshold 4, high word\n"), "{text}");
+    assert!(text.contains("\n     12  (3, 6)        CDT word 6: threshold 7, high word\n"), "{text}");
     assert_eq!(run_with(fs::read_to_string(&list).unwrap(), &["list", "-"]).out, text);
 }
 

@@ -1,6 +1,6 @@
 //! Refusals of the box, said of what was lent to it.
 
-use bliss_box::CDT;
+use bliss_box::{draw_limit, CDT};
 
 use super::*;
 
@@ -63,16 +63,37 @@ fn a_refused_cdt_is_named_with_its_length_or_its_lines() {
     }
     let refused = |name: &str, others: &[(usize, u64)], line: usize, problem: &str| {
         let cdt = cdt_with(name, others);
-        fails(&["draw", "--cdt", &cdt], 1, &format!("{cdt}:{line}: refusal 3: {problem}"));
+        fails(&["draw", "--cdt", &cdt], 1, &format!("{cdt}:{line}: refusal 3: {problem}; {HIGH_WORDS_FIRST}"));
     };
     let large = "this word is 2^62 or more";
     refused("cdt-large-last", &[(19, 1 << 62)], 21, large);
     refused("cdt-large-first", &[(0, u64::MAX), (19, 1 << 62)], 2, large);
-    refused("cdt-large-and-falling", &[(4, 0), (19, 1 << 62)], 21, large);
-    refused("cdt-falling-high", &[(18, 0)], 20, "threshold 10 (lines 20 and 21) is below threshold 9 (lines 18 and 19)");
+    refused("cdt-large-and-falling", &[(2, 0), (19, 1 << 62)], 21, large);
+    refused("cdt-falling-high", &[(9, 0)], 11, "threshold 10 (lines 11 and 21) is below threshold 9 (lines 10 and 20)");
     // The high words of thresholds 9 and 10 are the same.
-    refused("cdt-falling-low", &[(19, 0)], 20, "threshold 10 (lines 20 and 21) is below threshold 9 (lines 18 and 19)");
-    refused("cdt-falling-twice", &[(2, 1), (18, 0)], 4, "threshold 2 (lines 4 and 5) is below threshold 1 (lines 2 and 3)");
+    refused("cdt-falling-low", &[(19, 0)], 11, "threshold 10 (lines 11 and 21) is below threshold 9 (lines 10 and 20)");
+    refused("cdt-falling-twice", &[(1, 1), (9, 0)], 3, "threshold 2 (lines 3 and 13) is below threshold 1 (lines 2 and 12)");
+}
+
+/// What a refused CDT is told, since it may be in the order of before.
+const HIGH_WORDS_FIRST: &str = "the ten high words come first now, and then the ten low words";
+
+/// The command of docs/HOST-GUIDE.md that reorders a file of before.
+const REORDER: &str = r#"for every in 'p;n' 'n;p'; do grep '^[0-9]' before.txt | sed -n "$every"; done >cdt.txt"#;
+
+#[test]
+fn a_cdt_in_the_order_of_before_is_refused_until_it_is_reordered() {
+    let in_turn: Vec<u64> = (0..10).flat_map(|i| [CDT[i], CDT[10 + i]]).collect();
+    let folder = folder("reordering");
+    let (before, reordered) = (cdt_file("reordering/before.txt", &in_turn), format!("{folder}/cdt.txt"));
+    let problem = "threshold 2 (lines 3 and 13) is below threshold 1 (lines 2 and 12)";
+    fails(&["draw", "--cdt", &before], 1, &format!("{before}:3: refusal 3: {problem}; {HIGH_WORDS_FIRST}"));
+
+    assert!(Command::new("sh").args(["-c", REORDER]).current_dir(&folder).status().unwrap().success());
+    assert_eq!(fs::read_to_string(&reordered).unwrap(), lines(&CDT));
+    let words = file("reordering/words", lines(&random_words(6, draw_word_count(draw_limit(4)))));
+    let draw = |with: &[&str]| run(&[&["draw", "--degree", "4", "--words", &words], with].concat()).out;
+    assert_eq!(draw(&["--cdt", &reordered]), draw(&[]));
 }
 
 #[test]
@@ -80,13 +101,13 @@ fn refusals_come_in_their_order() {
     let words = file("one-word", "1\n");
     let refused =
         |with: &[&str], problem: &str| fails(&[&["draw", "--degree", "4", "--words", &words], with].concat(), 1, problem);
-    let (short, falling) = (cdt_file("order-short", &CDT[1..]), cdt_with("order-falling", &[(2, 0)]));
+    let (short, falling) = (cdt_file("order-short", &CDT[1..]), cdt_with("order-falling", &[(1, 0)]));
     let problem = format!("{short}: refusal 2: its length is 19, and 20 is wanted");
     refused(&["--cdt", &short], &problem);
     refused(&["--cdt", &short, "--limit", "7"], &problem);
-    let problem = "refusal 3: threshold 2 (lines 4 and 5) is below threshold 1 (lines 2 and 3)";
-    refused(&["--cdt", &falling], &format!("{falling}:4: {problem}"));
-    refused(&["--cdt", &falling, "--limit", "7"], &format!("{falling}:4: {problem}"));
+    let problem = format!("threshold 2 (lines 3 and 13) is below threshold 1 (lines 2 and 12); {HIGH_WORDS_FIRST}");
+    refused(&["--cdt", &falling], &format!("{falling}:3: refusal 3: {problem}"));
+    refused(&["--cdt", &falling, "--limit", "7"], &format!("{falling}:3: refusal 3: {problem}"));
     refused(&["--limit", "7"], "--limit 7: refusal 5: at degree 4 the limit is 8 to 128");
     refused(&["--limit", "18446744073709551615"], "--limit 18446744073709551615: refusal 5: at degree 4 the limit is 8 to 128");
     refused(&[], &format!("{words}: refusal 7: a draw wants 288 words, and it has 1 left"));

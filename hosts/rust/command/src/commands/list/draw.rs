@@ -57,8 +57,8 @@ impl Draw {
             entries.take_this(Kind::Word, place, &format!("word {place}: {used}"))?;
         }
         for i in 0..CDT.len() {
-            let half = if i % 2 == 0 { "high" } else { "low" };
-            entries.take_this(Kind::Cdt, i, &format!("CDT word {i}: threshold {}, {half} word", i / 2 + 1))?;
+            let half = if i < 10 { "high" } else { "low" };
+            entries.take_this(Kind::Cdt, i, &format!("CDT word {i}: threshold {}, {half} word", i % 10 + 1))?;
         }
         entries.take_polynomial(&format!("attempt {t}'s e(N)"))
     }

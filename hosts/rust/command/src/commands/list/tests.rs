@@ -162,7 +162,7 @@ fn errors_say_what_is_there_and_what_is_expected() {
         changed(&draw, 1, (2, 1)),
         "entry 2 is (2, 1), where (2, 0), word 0: high half of attempt 0's draw, is expected"
     );
-    assert_eq!(changed(&draw, 11, (3, 7)), "entry 12 is (3, 7), where (3, 6), CDT word 6: threshold 4, high word, is expected");
+    assert_eq!(changed(&draw, 11, (3, 7)), "entry 12 is (3, 7), where (3, 6), CDT word 6: threshold 7, high word, is expected");
     assert_eq!(
         changed(&draw, 25, (4, 19)),
         "entry 26 is (4, 19), where (4, 20), polynomial entry 20, for attempt 0's e(N), is expected"

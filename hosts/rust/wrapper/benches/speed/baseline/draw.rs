@@ -6,7 +6,7 @@ use super::exponential::exponential;
 use super::product::Product;
 use super::read_list::{entry, list_places, list_polynomial};
 use super::refusals::check_draw;
-use super::words::{low_62, threshold, two_words};
+use super::words::{low_62, thresholds, two_words};
 
 /// The entries of an attempt.
 const ATTEMPT_ENTRIES: usize = 46;
@@ -57,7 +57,7 @@ fn list_attempt(listed: &mut [u32], t: usize, accepted: usize) {
 fn attempt<P: Product>(cdt: &[u64; 20], polynomial: &[u64; 21], words: &[u64]) -> (i32, bool) {
     let d = two_words(low_62(words[0]), low_62(words[1]));
     // Ten, less the thresholds above d. Where bits are added up, the compiler may gather them in a vector first, which is slower.
-    let x = cdt.chunks_exact(2).fold(10, |x, words| x - u64::from(d < threshold(words)));
+    let x = thresholds(cdt).fold(10, |x, threshold| x - u64::from(d < threshold));
     let b = words[2] & 255;
     let negative = words[2] >> 8 & 1 == 1;
     let size = 256 * x + b;

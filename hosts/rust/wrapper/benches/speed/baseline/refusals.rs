@@ -5,7 +5,7 @@ use bliss_box::{challenge_limit, draw_list_length, draw_word_count, respond_list
 use bliss_box::{Refusal, Session, KEY_SUM_LIMIT, POLYNOMIAL, RESPOND_WORDS, VALUE_LIMIT};
 
 use super::record::Fields;
-use super::words::threshold;
+use super::words::thresholds;
 
 pub fn check_draw(
     n: usize,
@@ -76,8 +76,8 @@ pub fn is_degree(n: usize) -> bool {
 }
 
 fn is_cdt(cdt: &[u64; 20]) -> bool {
-    let thresholds = || cdt.chunks_exact(2).map(threshold);
-    cdt.iter().all(|word| *word < 1 << 62) && thresholds().zip(thresholds().skip(1)).all(|(before, after)| before <= after)
+    let rising = thresholds(cdt).zip(thresholds(cdt).skip(1)).all(|(before, after)| before <= after);
+    cdt.iter().all(|word| *word < 1 << 62) && rising
 }
 
 pub fn is_challenge(n: usize, challenge: &[u32]) -> bool {

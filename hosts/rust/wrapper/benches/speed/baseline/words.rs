@@ -10,7 +10,8 @@ pub fn two_words(high: u64, low: u64) -> u128 {
     u128::from(high) << 62 | u128::from(low)
 }
 
-/// The value of a threshold's two words.
-pub fn threshold(words: &[u64]) -> u128 {
-    two_words(words[0], words[1])
+/// The thresholds of a CDT.
+pub fn thresholds(cdt: &[u64; 20]) -> impl Iterator<Item = u128> + '_ {
+    let (high, low) = cdt.split_at(10);
+    high.iter().zip(low).map(|(high, low)| two_words(*high, *low))
 }
