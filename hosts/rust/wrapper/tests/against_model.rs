@@ -1,7 +1,8 @@
 //! Compares the raw surface of the archive with the model. Every draw and every respond call is compared in its answer, its
 //! session, y, z, the whole list, and in what it must leave alone: what is lent for reading, and the memory around every buffer.
 //! So is every key check, and what it promises of a key that passes is looked for in respond calls; and every record that is
-//! written or read, where what is written is read again, and what is taken for a record is written again.
+//! written or read, where what is written is read again, and what is taken for a record is written again. Draws by tables of
+//! document 01's order, reordered, are compared with what the model gives in that order.
 //! The last line says how many calls were compared. A run of the default length, or a longer one, fails where it misses a case, or
 //! compares less than the documents say.
 //!
@@ -20,6 +21,7 @@ mod key_checks;
 mod lent;
 mod lists;
 mod model;
+mod old_order;
 mod random;
 mod records;
 mod responses;
@@ -36,6 +38,9 @@ use run::DEFAULT_SEED;
 /// The draws and respond calls that a whole run compares with the model, or more, as README.md says.
 const LEAST_CALLS: u64 = 250_000;
 
+/// The draws by reordered tables among them, or more.
+const LEAST_REORDERED: u64 = 50_000;
+
 /// The key checks that it compares with the model, or more.
 const LEAST_KEY_CHECKS: u64 = 5_000;
 
@@ -47,13 +52,14 @@ const LEAST_PAIRS: u64 = 32_000;
 
 type Part = (&'static str, fn(&Comparison));
 
-const PARTS: [Part; 29] = [
+const PARTS: [Part; 30] = [
     ("guards", lent::guards_notice_every_change),
     ("openings", openings_are_the_models),
     ("filled parts", filled_parts_are_the_models),
     ("exponentials", exponentials_are_the_models),
     ("draws", draws::draws_are_the_models),
     ("draws spoilt in one place", draws::each_check_alone_is_the_models),
+    ("draws by reordered tables", old_order::reordered_tables_draw_as_before),
     ("responses", responses::responses_are_the_models),
     ("responses spoilt in one place", responses::each_check_alone_is_the_models),
     ("responses at their limits", responses::the_limits_of_a_response_are_the_models),
@@ -95,7 +101,8 @@ fn main() -> ExitCode {
     }
     println!("compared: {comparison}");
     if run::is_whole() && words.is_empty() && !is_enough(&comparison) {
-        eprint!("fewer than {LEAST_CALLS} draws and respond calls, than {LEAST_KEY_CHECKS} key checks, than {LEAST_RECORDS} records");
+        eprint!("fewer than {LEAST_CALLS} draws and respond calls, than {LEAST_REORDERED} draws by reordered tables");
+        eprint!(", than {LEAST_KEY_CHECKS} key checks, than {LEAST_RECORDS} records");
         eprintln!(", or than {LEAST_PAIRS} pairs of lists, were compared");
         return ExitCode::FAILURE;
     }
@@ -104,6 +111,7 @@ fn main() -> ExitCode {
 
 fn is_enough(comparison: &Comparison) -> bool {
     comparison.calls() >= LEAST_CALLS
+        && comparison.reordered() >= LEAST_REORDERED
         && comparison.key_checks() >= LEAST_KEY_CHECKS
         && comparison.records() >= LEAST_RECORDS
         && comparison.pairs() >= LEAST_PAIRS

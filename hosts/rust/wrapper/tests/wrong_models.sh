@@ -72,27 +72,42 @@ wrong_by_values() {
     differences | grep -qvxE 'the entries|the list' || fail "$1: nothing but the read list shows it"
 }
 
-# wrong_by_padding CALL: two that serve a draw, or a respond call, whose words or list are one short.
+# wrong_by_padding REFUSAL CALL: two that serve a draw, or a respond call, whose words or list are one short. REFUSAL and CALL are
+# the model's functions for it, up to the call that they take.
 wrong_by_padding() {
-    wrong 'one word too few is served' "let refusal = refusal_of_$1(call);" \
+    wrong 'one word too few is served' "let refusal = $1call);" \
         "let mut padded = call.clone();
          padded.words.push(0);
          let call = &padded;
-         let refusal = refusal_of_$1(call);"
-    wrong_by_padded_list 'one entry too few is served' "$1" true
+         let refusal = $1call);"
+    wrong_by_padded_list 'one entry too few is served' "$1" "$2" true
 }
 
-# wrong_by_padded_list NAME CALL WHERE: one that serves a call whose list is one entry short.
+# wrong_by_padded_list NAME REFUSAL CALL WHERE: one that serves a call whose list is one entry short.
 wrong_by_padded_list() {
-    wrong "$1" "let refusal = refusal_of_$2(call);" \
-        "let refusal = refusal_of_$2(call);
+    wrong "$1" "let refusal = $2call);" \
+        "let refusal = $2call);
          let mut padded = call.clone();
          padded.list.push(0);
-         if $3 && refusal == 8 && refusal_of_$2(&padded) != 8 {
-             let mut after = $2(&padded);
+         if $4 && refusal == 8 && $2&padded) != 8 {
+             let mut after = $3&padded);
              after.list.pop();
              return after;
          }"
+}
+
+# wrong_check NAME CHANGE: one that changes the words of the table, `cdt`, before it looks whether thresholds fall.
+wrong_check() {
+    wrong_by_values "$1" 'let thresholds = order(cdt);' "let mut cdt = cdt.to_vec();
+     $2
+     let thresholds = order(&cdt);"
+}
+
+# wrong_scan NAME CHANGE: one that changes the words of the table, `cdt`, before it counts thresholds.
+wrong_scan() {
+    wrong_by_values "$1" 'let thresholds = order(&call.cdt);' "let mut cdt = call.cdt.clone();
+     $2
+     let thresholds = order(&cdt);"
 }
 
 # wrong_z1 NAME VALUE: one that tests other values, at place i, for those of z1.
@@ -144,13 +159,13 @@ part=draw.rs
 wrong 'the scan is left at the first threshold above d' 'list_attempt(&mut entries, t, samples.len());' \
     'list_attempt(&mut entries, t, samples.len());
      let end = entries.len() - 22;
-     entries.drain(end - 2 * (9 - attempt.x.min(9) as usize)..end);'
+     entries.drain(end - (9 - attempt.x.min(9) as usize)..end);'
 wrong 'no exponential at size 0' 'list_attempt(&mut entries, t, samples.len());' \
     'list_attempt(&mut entries, t, samples.len());
      let end = entries.len() - 1;
      entries.drain(end - if attempt.size() == 0 { 21 } else { 0 }..end);'
 wrong_by_values 'zero is kept with both signs' ' && !(self.size() == 0 && self.negative)' ''
-wrong_by_values 'high words alone are compared' 'threshold(cdt, i) <= d' 'threshold(cdt, i) / ONE <= d / ONE'
+wrong_by_values 'high words alone are compared' 'threshold <= d' 'threshold / ONE <= d / ONE'
 part=respond.rs
 wrong_by_values 'no minus sign where a position wraps' '(i + n - c, true)' '(i + n - c, false)'
 wrong_by_values 'z is kept on bit 0' 'z: if bit {' 'z: if bit || !bit {'
@@ -158,9 +173,35 @@ wrong_by_values 'z is kept on bit 0' 'z: if bit {' 'z: if bit || !bit {'
 part=draw.rs
 
 # Base sample
-wrong 'a threshold counts only below d' 'threshold(cdt, i) <= d' 'threshold(cdt, i) < d'
-wrong 'the low word is left out at equal high words' 'threshold(cdt, i) <= d' 'threshold(cdt, i) / ONE < d / ONE'
-wrong 'nine thresholds' 'for i in 0..10 {' 'for i in 0..9 {'
+wrong 'a threshold counts only below d' 'threshold <= d' 'threshold < d'
+wrong 'the low word is left out at equal high words' 'threshold <= d' 'threshold / ONE < d / ONE'
+wrong 'high and low words are compared each for itself' 'threshold <= d' \
+    'threshold / ONE <= d / ONE && threshold % ONE <= d % ONE'
+wrong 'nine thresholds' 'for &threshold in thresholds {' 'for &threshold in &thresholds[..9] {'
+
+# Document 02's order of the CDT. The last two of these take tables of the old order otherwise, and no others.
+threshold='u128::from(cdt[i]) * ONE + u128::from(cdt[10 + i])'
+reordered='(0..20).map(|place| cdt[place % 10 * 2 + place / 10]).collect()'
+wrong_by_values 'the old order' "$threshold" 'u128::from(cdt[2 * i]) * ONE + u128::from(cdt[2 * i + 1])'
+wrong_by_values 'low words before high words' "$threshold" 'u128::from(cdt[10 + i]) * ONE + u128::from(cdt[i])'
+wrong_by_values 'low words from the last to the first' 'cdt[10 + i]' 'cdt[19 - i]'
+wrong_by_values 'the low word of the next threshold' 'cdt[10 + i]' 'cdt[10 + (i + 1) % 10]'
+wrong_by_values 'the low word of the threshold before' 'cdt[10 + i]' 'cdt[9 + i.max(1)]'
+wrong_check 'the old order where the table is checked' "cdt = $reordered;"
+wrong_scan 'the old order where thresholds are counted' "cdt = $reordered;"
+wrong_check 'low words before high words where the table is checked' 'cdt.rotate_left(10);'
+wrong_scan 'low words before high words where thresholds are counted' 'cdt.rotate_left(10);'
+wrong_check 'low words of the next thresholds where the table is checked' 'cdt[10..].rotate_left(1);'
+wrong_scan 'low words of the next thresholds where thresholds are counted' 'cdt[10..].rotate_left(1);'
+wrong_check 'low words of the thresholds before where the table is checked' 'cdt[10..].rotate_right(1);'
+wrong_scan 'low words of the thresholds before where thresholds are counted' 'cdt[10..].rotate_right(1);'
+wrong_by_values 'a table of the old order is served' 'if !cdt_is_right(order, &call.cdt) {' \
+    "let cdt = &call.cdt;
+     let reordered: Vec<u64> = $reordered;
+     if !cdt_is_right(order, cdt) && !cdt_is_right(order, &reordered) {"
+wrong_scan 'a table that is right in both orders is taken in the old one' \
+    "let reordered: Vec<u64> = $reordered;
+     if cdt_is_right(order, &reordered) { cdt = reordered; }"
 
 # Attempt
 wrong 'b of nine bits' 'let b = words[2] % 256;' 'let b = words[2] % 512;'
@@ -176,8 +217,8 @@ wrong 'spent one attempt early' 'attempts.len() < call.limit' 'attempts.len() + 
 wrong 'full one sample early' 'while samples.len() < 2 * n' 'while samples.len() < 2 * n - 1'
 wrong 'never full on the last attempt' 'let full = samples.len() == 2 * n;' \
     'let full = samples.len() == 2 * n && attempts.len() < call.limit;'
-wrong 'words of the first attempt again' 'Attempt::of(words, &call.cdt)' \
-    'Attempt::of(call.words[..4].try_into().unwrap_or(words), &call.cdt)'
+wrong 'words of the first attempt again' 'Attempt::of(words, &thresholds)' \
+    'Attempt::of(call.words[..4].try_into().unwrap_or(words), &thresholds)'
 wrong 'y stands on spent' 'vec![0; 2 * n]' 'call.y.clone()'
 wrong 'accepted samples stand on spent' 'vec![0; 2 * n]' \
     'samples.iter().copied().chain(vec![0; 2 * n - samples.len()]).collect()'
@@ -190,6 +231,21 @@ wrong 'kind 5 counts after the attempt' 'list_attempt(&mut entries, t, samples.l
 wrong 'kind 5 has the attempt' 'list_attempt(&mut entries, t, samples.len());' 'list_attempt(&mut entries, t, t);'
 wrong 'word places from 0 in each attempt' 'for place in 4 * t..4 * t + 4 {' 'for place in 4 * (t - t)..4 {'
 wrong 'the last entry is missing' 'entries.push(entry(6, samples.len()));' ''
+wrong 'kind 3 by thresholds' 'entry(3, place)' 'entry(3, place / 2 + place % 2 * 10)'
+wrong 'kind 3 has places of the old order' 'entry(3, place)' 'entry(3, place % 10 * 2 + place / 10)'
+wrong 'low words are listed before high words' 'entry(3, place)' 'entry(3, (place + 10) % 20)'
+wrong 'high words are listed twice, and no low word' 'entry(3, place)' 'entry(3, place % 10)'
+wrong 'one word is listed twice, and the next one not at all' 'entry(3, place)' 'entry(3, place - usize::from(place == 10))'
+wrong 'the first CDT word is not listed' 'for place in 0..20 {' 'for place in 1..20 {'
+wrong 'the first low word is not listed' 'for place in 0..20 {' 'for place in (0..20).filter(|&place| place != 10) {'
+wrong 'the last CDT word is not listed' 'for place in 0..20 {' 'for place in 0..19 {'
+wrong 'high words are listed in the first attempt alone' 'for place in 0..20 {' 'for place in if t == 0 { 0..20 } else { 10..20 } {'
+wrong 'low words are listed at equal high words alone' 'list_attempt(&mut entries, t, samples.len());' \
+    'list_attempt(&mut entries, t, samples.len());
+     if thresholds.iter().all(|threshold| threshold / ONE != attempt.d / ONE) {
+         let end = entries.len() - 22;
+         entries.drain(end - 10..end);
+     }'
 
 # The session after a draw
 wrong 'spent keeps drawn' 'drawn: full }' 'drawn: full || call.session.drawn }'
@@ -204,11 +260,11 @@ wrong 'refusals 2 and 1 in the other order' 'if !degree_is_served(n) {' \
     'if call.cdt.len() + 1 != 21 { return 2; }
      if !degree_is_served(n) {'
 wrong 'refusals 3 and 2 in the other order' 'if call.cdt.len() != 20 ||' \
-    'if call.cdt.len() == 20 && !cdt_is_right(&call.cdt) { return 3; }
+    'if call.cdt.len() == 20 && !cdt_is_right(order, &call.cdt) { return 3; }
      if call.cdt.len() != 20 ||'
-wrong 'refusals 3 and 4 in the other order' 'if !cdt_is_right(&call.cdt) {' \
+wrong 'refusals 3 and 4 in the other order' 'if !cdt_is_right(order, &call.cdt) {' \
     'if call.polynomial != POLYNOMIAL { return 4; }
-     if !cdt_is_right(&call.cdt) {'
+     if !cdt_is_right(order, &call.cdt) {'
 wrong 'refusals 5 and 4 in the other order' 'if call.polynomial != POLYNOMIAL {' \
     'if limit < 2 * n || limit > 32 * n { return 5; }
      if call.polynomial != POLYNOMIAL {'
@@ -218,17 +274,21 @@ wrong 'refusals 7 and 5 in the other order' 'if limit < 2 * n ||' \
 wrong 'refusals 7 and 8 in the other order' 'if call.words.len() <' \
     'if call.list.len() < list_asked(limit) { return 8; }
      if call.words.len() <'
-wrong 'equal thresholds are refused' 'threshold(cdt, i) < threshold(cdt, i - 1)' \
-    'threshold(cdt, i) <= threshold(cdt, i - 1)'
-wrong 'low words may fall at equal high words' 'threshold(cdt, i) < threshold(cdt, i - 1)' 'cdt[2 * i] < cdt[2 * i - 2]'
+wrong 'equal thresholds are refused' 'thresholds[i] < thresholds[i - 1]' 'thresholds[i] <= thresholds[i - 1]'
+wrong 'low words may fall at equal high words' 'thresholds[i] < thresholds[i - 1]' 'thresholds[i] / ONE < thresholds[i - 1] / ONE'
+wrong 'low words may never fall' 'thresholds[i] < thresholds[i - 1]' \
+    'thresholds[i] < thresholds[i - 1] || thresholds[i] % ONE < thresholds[i - 1] % ONE'
+wrong 'the last threshold may fall' 'for i in 1..10 {' 'for i in 1..9 {'
 wrong 'a CDT word may be 2^62' 'u128::from(word) >= ONE' 'u128::from(word) > ONE'
 wrong 'the last CDT word is not looked at' 'for &word in cdt {' 'for &word in &cdt[..19] {'
+wrong 'a high word may be 2^62 or more' 'for &word in cdt {' 'for &word in &cdt[10..] {'
+wrong 'a low word may be 2^62 or more' 'for &word in cdt {' 'for &word in &cdt[..10] {'
 wrong 'entry 20 of the polynomial table is not looked at' 'call.polynomial != POLYNOMIAL' \
     'call.polynomial[..20] != POLYNOMIAL[..20]'
 wrong 'L = 2n is refused' 'limit < 2 * n' 'limit <= 2 * n'
 wrong 'L = 32n is refused' 'limit > 32 * n' 'limit >= 32 * n'
 wrong 'more words than 4L are refused' 'call.words.len() < words_asked' 'call.words.len() != words_asked'
-wrong_by_padding draw
+wrong_by_padding 'refusal_of_draw(order, ' 'draw_in(order, '
 wrong 'one word more is asked for' 'limit.saturating_mul(4)' 'limit.saturating_mul(4).saturating_add(1)'
 wrong 'one entry more is asked for' 'saturating_add(2)' 'saturating_add(3)'
 
@@ -347,7 +407,7 @@ wrong_blank_list 'blank, the polynomial table is listed once' 'entries.drain(4..
 wrong_blank_list 'blank, the last entry is missing' 'entries.pop();'
 wrong 'blank, a list for one position is asked for' '2 * positions' '2 * positions.max(1)'
 wrong 'blank, 48 entries are asked for' 'saturating_add(47)' 'saturating_add(47 + usize::from(positions == 0))'
-wrong_by_padded_list 'blank, 46 entries are enough' respond "$blank"
+wrong_by_padded_list 'blank, 46 entries are enough' 'refusal_of_respond(' 'respond(' "$blank"
 wrong_blank_call 'blank, a key of any length is served' 'changed.key.resize(call.y.len(), 0);'
 wrong_blank_call 'blank, two words are enough' 'changed.words.push(0);'
 wrong 'blank, any polynomial table is served' 'call.polynomial != POLYNOMIAL' "!$blank && call.polynomial != POLYNOMIAL"
@@ -383,7 +443,7 @@ wrong 'equal positions are served' 'position <= challenge[place - 1]' 'position 
 wrong 'positions may fall' 'position <= challenge[place - 1]' 'position == challenge[place - 1]'
 wrong 'more than three words are refused' 'call.words.len() < WORDS_ASKED' 'call.words.len() != WORDS_ASKED'
 wrong 'four words are asked for' 'call.words.len() < WORDS_ASKED' 'call.words.len() <= WORDS_ASKED'
-wrong_by_padding respond
+wrong_by_padding 'refusal_of_respond(' 'respond('
 wrong 'one entry more is asked for' 'saturating_add(47)' 'saturating_add(48)'
 wrong 'a response with nothing drawn is served' '!call.session.drawn' 'false'
 wrong 'key value 8 is served' '(-7..=7)' '(-7..=8)'
@@ -439,6 +499,14 @@ wrong 'a count over the length gets the whole list' '&list[..0]' 'list'
 wrong 'a count of the length gets the empty part' 'count > list.len()' 'count >= list.len()'
 wrong 'five squarings' 'for _ in 0..6 {' 'for _ in 0..5 {'
 wrong 'the exponential refuses its limit' 'n > EXPONENTIAL_LIMIT' 'n >= EXPONENTIAL_LIMIT'
+
+# Document 01's order of the CDT, and its reordering
+part=../old_order/mod.rs
+words=reordered
+wrong_by_values 'tables are not reordered' 'cdt: reordered(&old.cdt)' 'cdt: old.cdt.clone()'
+wrong_by_values 'reordered, low words before high words' 'high.chain(low)' 'low.chain(high)'
+wrong_by_values 'reordered, low words of the next thresholds' 'cdt.iter().skip(1).step_by(2)' \
+    'cdt.iter().skip(3).step_by(2).chain(cdt.get(1))'
 
 # Document 02's key check. At large degrees its model is too slow where it is not optimised.
 part=key_check.rs

@@ -26,7 +26,7 @@ pub fn right(random: &mut Random, degree: usize) -> Call {
 pub fn with_limit(random: &mut Random, degree: usize, limit: usize) -> Call {
     let ordinary = random.one_in(4);
     let cdt = if ordinary { bliss_box::CDT.to_vec() } else { cdt(random) };
-    let words = if ordinary { any_words(random, words_asked(limit)) } else { words(random, limit, &cdt) };
+    let words = if ordinary { any_words(random, words_asked(limit)) } else { words(random, limit, &draw::thresholds(&cdt)) };
     Call {
         session: Session { degree, drawn: random.one_in(2) },
         limit,
@@ -81,7 +81,7 @@ fn lend_more(random: &mut Random, call: &mut Call) {
 
 /// The table of document 01's known points: the i-th threshold, from 1, is high i × 2^40, low 0.
 fn known_points_cdt() -> Vec<u64> {
-    (1..=10).flat_map(|i| [i << 40, 0]).collect()
+    (1..=10).map(|i| i << 40).chain([0; 10]).collect()
 }
 
 /// A right CDT table.
@@ -91,23 +91,24 @@ pub fn cdt(random: &mut Random) -> Vec<u64> {
         0..=2 => return bliss_box::CDT.to_vec(),
         3 => return known_points_cdt(),
         // Equal thresholds.
-        4 => vec![[random.pick(&[0, high, BOUND - 1]), random.pick(&[0, high, BOUND - 1])]; 10],
+        4 => vec![(random.pick(&[0, high, BOUND - 1]), random.pick(&[0, high, BOUND - 1])); 10],
         // Equal high words and differing low words.
-        5 => (0..10).map(|_| [high, random.word() % BOUND]).collect(),
+        5 => (0..10).map(|_| (high, random.word() % BOUND)).collect(),
         // Thresholds at 0 and at the greatest value, and some between.
-        6 => (0..10).map(|_| random.pick(&[[0, 0], [high, high], [BOUND - 1, BOUND - 1]])).collect(),
-        _ => (0..10).map(|_| [random.word() % BOUND, random.word() % BOUND]).collect(),
+        6 => (0..10).map(|_| random.pick(&[(0, 0), (high, high), (BOUND - 1, BOUND - 1)])).collect(),
+        _ => (0..10).map(|_| (random.word() % BOUND, random.word() % BOUND)).collect(),
     };
     thresholds.sort_unstable();
-    thresholds.concat()
+    let (high, low): (Vec<u64>, Vec<u64>) = thresholds.into_iter().unzip();
+    [high, low].concat()
 }
 
 fn any_words(random: &mut Random, count: usize) -> Vec<u64> {
     (0..count).map(|_| random.word()).collect()
 }
 
-/// The words of a draw.
-fn words(random: &mut Random, limit: usize, cdt: &[u64]) -> Vec<u64> {
+/// The words of a draw by these thresholds.
+pub fn words(random: &mut Random, limit: usize, thresholds: &[u128; 10]) -> Vec<u64> {
     let same = random.pick(&[0, u64::MAX, 3 << 62, 256]);
     match random.below(10) {
         0 => vec![same; words_asked(limit)],
@@ -115,21 +116,21 @@ fn words(random: &mut Random, limit: usize, cdt: &[u64]) -> Vec<u64> {
         2..=4 => any_words(random, words_asked(limit)),
         _ => {
             let accepting = random.below(5);
-            (0..limit).flat_map(|_| edge_words(random, cdt, accepting)).collect()
+            (0..limit).flat_map(|_| edge_words(random, thresholds, accepting)).collect()
         }
     }
 }
 
 /// An attempt's words at the edges of its rules. The greater `accepting`, 0 to 4, the more attempts are accepted.
-pub fn edge_words(random: &mut Random, cdt: &[u64], accepting: usize) -> [u64; 4] {
-    let d = edge_d(random, cdt);
+pub fn edge_words(random: &mut Random, thresholds: &[u128; 10], accepting: usize) -> [u64; 4] {
+    let d = edge_d(random, thresholds);
     let any = random.word();
     let sign_and_low = random.pick(&[0, 1, 255, 256, 257, 511, any % 512]);
     let over = random.pick(&[0, 0, 1, any >> 9, u64::MAX >> 9]);
     let high = top_bits(random, (d >> 62) as u64);
     let low = top_bits(random, (d % u128::from(BOUND)) as u64);
     let mut words = [high, low, sign_and_low + (over << 9), 0];
-    let e = Attempt::of(words, cdt).e as u64;
+    let e = Attempt::of(words, thresholds).e as u64;
     words[3] = if random.below(5) < accepting {
         random.pick(&[0, e - 1, any % e])
     } else {
@@ -140,9 +141,9 @@ pub fn edge_words(random: &mut Random, cdt: &[u64], accepting: usize) -> [u64; 4
 }
 
 /// A draw at, just below or just above a threshold, at an end, or anywhere.
-fn edge_d(random: &mut Random, cdt: &[u64]) -> u128 {
+fn edge_d(random: &mut Random, thresholds: &[u128; 10]) -> u128 {
     let greatest = (1 << 124) - 1;
-    let threshold = draw::threshold(cdt, random.below(10));
+    let threshold = random.pick(thresholds);
     match random.below(8) {
         0 => 0,
         1 => greatest,
@@ -184,21 +185,22 @@ fn spoil_lengths(random: &mut Random, call: &mut Call) {
     }
 }
 
-fn spoil_cdt(random: &mut Random, cdt: &mut [u64]) {
-    let i = 2 * (1 + random.below(9));
+pub fn spoil_cdt(random: &mut Random, cdt: &mut [u64]) {
+    let i = 1 + random.below(9);
+    let (high, low) = cdt.split_at_mut(10);
     match random.below(4) {
         0 => cdt[random.below(20)] = random.pick(&[BOUND, BOUND + 1, 1 << 63, u64::MAX]),
         // The high word falls, and the low word rises.
         1 => {
-            cdt[i - 2] = cdt[i - 2].max(1);
-            cdt[i] = cdt[i - 2] - 1;
-            cdt[i + 1] = BOUND - 1;
+            high[i - 1] = high[i - 1].max(1);
+            high[i] = high[i - 1] - 1;
+            low[i] = BOUND - 1;
         }
         // The high words are equal, and the low word falls.
         _ => {
-            cdt[i - 1] = cdt[i - 1].max(1);
-            cdt[i] = cdt[i - 2];
-            cdt[i + 1] = cdt[i - 1] - 1;
+            low[i - 1] = low[i - 1].max(1);
+            high[i] = high[i - 1];
+            low[i] = low[i - 1] - 1;
         }
     }
 }

@@ -13,6 +13,7 @@ use crate::model::{self, draw, key_check, record, respond, Session};
 pub struct Comparison {
     openings: AtomicU64,
     draws: AtomicU64,
+    reordered: AtomicU64,
     responds: AtomicU64,
     blank_responses: AtomicU64,
     filled: AtomicU64,
@@ -48,8 +49,12 @@ impl Comparison {
 
     /// Draws with the box and with the model, and compares.
     pub fn draw(&self, origin: &dyn Display, call: &draw::Call) -> draw::Drawn {
+        self.draw_as(origin, call, draw::draw(call))
+    }
+
+    /// Draws with the box, and compares with what the model gave.
+    pub fn draw_as(&self, origin: &dyn Display, call: &draw::Call, expected: draw::Drawn) -> draw::Drawn {
         let given = archive::draw(origin, call);
-        let expected = draw::draw(call);
         same(origin, "the refusal", &[given.answer.refusal], &[expected.answer.refusal]);
         same(origin, "the attempts", &[given.answer.attempts], &[expected.answer.attempts]);
         same(origin, "the accepted count", &[given.answer.accepted], &[expected.answer.accepted]);
@@ -138,6 +143,11 @@ impl Comparison {
         self.packed_lengths.fetch_add(1, Relaxed);
     }
 
+    /// Counts a draw by a reordered table, which was compared.
+    pub fn count_reordered(&self) {
+        self.reordered.fetch_add(1, Relaxed);
+    }
+
     /// Counts a list of calls, each of which was compared.
     pub fn count_list(&self) {
         self.lists.fetch_add(1, Relaxed);
@@ -151,6 +161,11 @@ impl Comparison {
     /// The draws and respond calls that were compared with the model.
     pub fn calls(&self) -> u64 {
         self.draws.load(Relaxed) + self.responds.load(Relaxed)
+    }
+
+    /// The draws by reordered tables among them.
+    pub fn reordered(&self) -> u64 {
+        self.reordered.load(Relaxed)
     }
 
     /// The key checks that were compared with the model.
@@ -173,7 +188,8 @@ impl Display for Comparison {
     fn fmt(&self, f: &mut Formatter<'_>) -> fmt::Result {
         let count = |counter: &AtomicU64| counter.load(Relaxed);
         write!(f, "{} draws and {} respond calls", count(&self.draws), count(&self.responds))?;
-        write!(f, " ({} blank responses and {} lists of calls among them)", count(&self.blank_responses), count(&self.lists))?;
+        write!(f, " ({} draws by reordered tables", count(&self.reordered))?;
+        write!(f, ", {} blank responses and {} lists of calls among them)", count(&self.blank_responses), count(&self.lists))?;
         write!(f, ", {} openings, {} filled parts", count(&self.openings), count(&self.filled))?;
         write!(f, ", {} exponentials, {} key checks", count(&self.exponentials), count(&self.key_checks))?;
         write!(f, ", {} records written and {} read", count(&self.records_written), count(&self.records_read))?;

@@ -1,7 +1,7 @@
 //! What draws came across.
 
 use super::{at_degree, Coverage, TOP_BITS};
-use crate::model::draw::{list_asked, threshold, words_asked, Attempt, Call, Drawn};
+use crate::model::draw::{list_asked, thresholds, words_asked, Attempt, Call, Drawn};
 
 /// The refusals of a draw.
 pub const REFUSALS: [u32; 7] = [1, 2, 3, 4, 5, 7, 8];
@@ -18,6 +18,11 @@ type Side = (&'static str, fn(u128, u128) -> bool, bool);
 
 const SIDES: [Side; 3] =
     [("just below", |d, t| d + 1 == t, false), ("at", |d, t| d == t, true), ("just above", |d, t| d == t + 1, true)];
+
+/// The low word of a threshold, or of d.
+fn low(t: u128) -> u128 {
+    t % (1 << 62)
+}
 
 /// The attempts that a draw made, each with its words.
 struct Made<'a> {
@@ -37,14 +42,39 @@ impl Coverage {
         self.count_call(call.session, refusal);
         self.count_lent("words", call.words.len(), words_asked(call.limit), refusal, 7);
         self.count_lent("list entries", call.list.len(), list_asked(call.limit), refusal, 8);
+        if refusal == 3 {
+            self.count_wrong_table(&call.cdt);
+        }
         if refusal == 0 {
-            let thresholds: Vec<u128> = (0..10).map(|i| threshold(&call.cdt, i)).collect();
+            let thresholds = thresholds(&call.cdt);
             let made = Made { attempts: call.words.chunks(4).zip(&drawn.attempts).collect() };
             self.count_full_or_spent(call, drawn);
             self.count_table(&thresholds);
             self.count_scans(&made, &thresholds);
             self.count_ends(&made, &thresholds);
             self.count_edges_of_attempts(&made);
+        }
+    }
+
+    /// Counts what refuses a table, where it is one thing alone: a word that is too great, or a threshold that falls.
+    fn count_wrong_table(&mut self, cdt: &[u64]) {
+        let too_great: Vec<usize> = (0..20).filter(|&place| cdt[place] >= 1 << 62).collect();
+        let thresholds = thresholds(cdt);
+        let falling: Vec<usize> = (1..10).filter(|&i| thresholds[i] < thresholds[i - 1]).collect();
+        for place in 0..20 {
+            self.see(format!("refusal 3, word {place:2} alone is too great"), too_great == [place]);
+        }
+        for (word, places) in [("high", 0..10), ("low", 10..20)] {
+            let one = too_great.len() == 1 && places.contains(&too_great[0]);
+            self.see(format!("refusal 3, a {word} word of 2^62 alone"), one && cdt[too_great[0]] == 1 << 62);
+            self.see(format!("refusal 3, a {word} word is too great, and no threshold falls"), one && falling.is_empty());
+        }
+        let (high, low) = cdt.split_at(10);
+        for i in 1..10 {
+            let alone = too_great.is_empty() && falling == [i];
+            let case = format!("refusal 3, threshold {i} alone falls");
+            self.see(format!("{case}, its low word rises"), alone && high[i] < high[i - 1] && low[i] > low[i - 1]);
+            self.see(format!("{case} by its low word"), alone && high[i] == high[i - 1]);
         }
     }
 
@@ -70,6 +100,7 @@ impl Coverage {
         self.see("equal high words, other low words", pairs().any(|(a, b)| a >> 62 == b >> 62 && a < b));
         self.see("ten equal high words, other low words", pairs().all(|(a, b)| a >> 62 == b >> 62 && a < b));
         self.see("ten high words", pairs().all(|(a, b)| a >> 62 < b >> 62));
+        self.see("a greater high word, a smaller low word", pairs().any(|(a, b)| a >> 62 < b >> 62 && low(a) > low(b)));
         self.see("threshold at 0", thresholds[0] == 0);
         self.see("ten thresholds at 0", thresholds[9] == 0);
         self.see("threshold at 2^124 - 1", thresholds[9] == GREATEST);
@@ -100,7 +131,6 @@ impl Coverage {
     /// d at either end, and d and a threshold on both sides of a high word, or in one.
     fn count_ends(&mut self, made: &Made, thresholds: &[u128]) {
         let any = |case: &dyn Fn(u128, u128) -> bool| made.count(|a, _| thresholds.iter().any(|&t| case(a.d, t)));
-        let low = |t: u128| t % (1 << 62);
         self.count("d = 0 at a threshold", any(&|d, t| d == 0 && t == 0));
         self.count("d = 0 below all thresholds", made.count(|a, _| a.d == 0 && a.x == 0));
         self.count("d = 2^124 - 1 at a threshold", any(&|d, t| d == GREATEST && t == GREATEST));

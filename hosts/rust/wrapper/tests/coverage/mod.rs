@@ -3,6 +3,7 @@
 mod blank;
 mod draw;
 mod key_check;
+mod old_order;
 mod record;
 mod respond;
 

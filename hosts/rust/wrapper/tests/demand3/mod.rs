@@ -221,9 +221,10 @@ pub fn what_is_listed_can_decide(comparison: &Comparison) {
             for kind in [Kind::Word, Kind::Cdt, Kind::Polynomial, Kind::Key] {
                 let places = listed(&given[at].entries, kind);
                 if !places.is_empty() {
-                    let changed = [&steps[..at], &[different(&mut random, step, kind, &places)]].concat();
+                    let place = random.pick(&places);
+                    let changed = [&steps[..at], &[different(&mut random, step, kind, place)]].concat();
                     let after = run_any(&mut random, &origin, degree, &changed);
-                    count_decision(&mut coverage, step, kind, &given[at], &after[at]);
+                    count_decision(&mut coverage, step, (kind, place), &given[at], &after[at]);
                     comparison.count_pair();
                 }
             }
@@ -235,12 +236,17 @@ pub fn what_is_listed_can_decide(comparison: &Comparison) {
 
 /// Whether another value at a place of this kind changed what is seen of a call that is still served. Another polynomial table is
 /// always refused.
-fn count_decision(coverage: &mut Coverage, step: &Step, kind: Kind, given: &Given, after: &Given) {
+fn count_decision(coverage: &mut Coverage, step: &Step, (kind, place): (Kind, usize), given: &Given, after: &Given) {
     let call = match step.call {
         Call::Draw(_) => "draw",
         Call::Respond(_) => "response",
     };
     let served = after.seen.refusal == 0;
     let decides = given.seen != after.seen && (served || kind == Kind::Polynomial);
-    coverage.see(format!("{call}: a place of kind {} decides", kind.number()), decides);
+    let word = match (kind, place) {
+        (Kind::Cdt, ..10) => ", a high word,",
+        (Kind::Cdt, _) => ", a low word,",
+        _ => "",
+    };
+    coverage.see(format!("{call}: a place of kind {}{word} decides", kind.number()), decides);
 }

@@ -49,11 +49,10 @@ pub fn counterpart(random: &mut Random, step: &Step, entries: &[u32]) -> Step {
     step
 }
 
-/// The same call with another value at one of these places. A threshold's high word stays between those of its neighbours, and
-/// a key value in its bounds, so that few of these calls are refused.
-pub fn different(random: &mut Random, step: &Step, kind: Kind, places: &[usize]) -> Step {
+/// The same call with another value at a place. A threshold's high word stays between those of its neighbours, and a key value in
+/// its bounds, so that few of these calls are refused.
+pub fn different(random: &mut Random, step: &Step, kind: Kind, place: usize) -> Step {
     let mut step = step.clone();
-    let place = random.pick(places);
     match (&mut step.call, kind) {
         (Call::Draw(call), Kind::Word) => call.words[place] = random.word(),
         (Call::Respond(call), Kind::Word) => call.words[place] = random.word(),
@@ -68,10 +67,10 @@ pub fn different(random: &mut Random, step: &Step, kind: Kind, places: &[usize])
 
 fn between_neighbours(random: &mut Random, cdt: &[u64], place: usize) -> u64 {
     let greatest = (1 << 62) - 1;
-    if place % 2 == 1 {
+    if place >= 10 {
         return random.word() & greatest;
     }
-    let least = if place >= 2 { cdt[place - 2] } else { 0 };
-    let most = if place < 18 { cdt[place + 2] } else { greatest };
+    let least = if place > 0 { cdt[place - 1] } else { 0 };
+    let most = if place < 9 { cdt[place + 1] } else { greatest };
     least + random.word() % (most - least + 1)
 }

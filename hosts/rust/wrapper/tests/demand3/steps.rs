@@ -101,15 +101,16 @@ fn draw_of(random: &mut Random, session: Session, bits: &[bool], accepted_next: 
     let degree = session.degree;
     let ordinary = degree > GREATEST_EDGE_DEGREE || random.one_in(3);
     let mut cdt = if ordinary { bliss_box::CDT.to_vec() } else { calls::draw::cdt(random) };
-    if accepted_next && draw::threshold(&cdt, 8) == 0 {
+    if accepted_next && draw::thresholds(&cdt)[8] == 0 {
         // Its base samples are 9 and 10, and so its samples 2,304 or more.
         cdt = bliss_box::CDT.to_vec();
     }
+    let thresholds = draw::thresholds(&cdt);
     let mut words = Vec::new();
     let mut samples = 0;
     for &bit in bits {
         let greatest = if accepted_next && samples < degree { GREATEST_Z1 } else { GREATEST_Y };
-        words.extend(attempt_words(random, &cdt, ordinary, bit, greatest));
+        words.extend(attempt_words(random, &thresholds, ordinary, bit, greatest));
         samples += usize::from(bit);
     }
     let full = accepted(bits) == 2 * degree;
@@ -125,10 +126,10 @@ fn draw_of(random: &mut Random, session: Session, bits: &[bool], accepted_next: 
 }
 
 /// The words of an attempt with this accept bit, by which no greater sample is accepted than this.
-fn attempt_words(random: &mut Random, cdt: &[u64], ordinary: bool, bit: bool, greatest: i32) -> [u64; 4] {
+fn attempt_words(random: &mut Random, thresholds: &[u128; 10], ordinary: bool, bit: bool, greatest: i32) -> [u64; 4] {
     for _ in 0..TRIES {
-        let words = if ordinary { [(); 4].map(|()| random.word()) } else { calls::draw::edge_words(random, cdt, 2) };
-        let attempt = Attempt::of(words, cdt);
+        let words = if ordinary { [(); 4].map(|()| random.word()) } else { calls::draw::edge_words(random, thresholds, 2) };
+        let attempt = Attempt::of(words, thresholds);
         if attempt.accepted() == bit && (!bit || attempt.sample().abs() <= greatest) {
             return words;
         }

@@ -53,6 +53,14 @@ fn served_at_an_end(random: &mut Random, right: &Call) -> Vec<(String, Call)> {
     served.push(("one entry more".into(), changed(right, |call| call.list.push(7))));
     served.push(("all thresholds at 0".into(), changed(right, |call| call.cdt.fill(0))));
     served.push(("all thresholds at 2^124 - 1".into(), changed(right, |call| call.cdt.fill((1 << 62) - 1))));
+    let (equal, rising, falling) = ([7; 10], [0, 1, 2, 3, 4, 5, 6, 7, 8, 9], [9, 8, 7, 6, 5, 4, 3, 2, 1, 0]);
+    for (name, high, low) in [
+        ("equal high words, and low words that rise", equal, rising),
+        ("high words that rise, and equal low words", rising, equal),
+        ("high words that rise, and low words that fall", rising, falling),
+    ] {
+        served.push((name.into(), changed(right, |call| call.cdt = [high, low].concat())));
+    }
     served
 }
 
@@ -99,10 +107,14 @@ fn spoilt_in_a_table(right: &Call) -> Vec<(String, Call)> {
         add(format!("CDT word {place} at 2^64 - 1"), &|call| call.cdt[place] = u64::MAX);
     }
     for i in 1..10 {
-        add(format!("threshold {i} one above the next"), &|call| {
-            call.cdt[2 * i - 2] = call.cdt[2 * i];
-            call.cdt[2 * i + 1] = 5;
-            call.cdt[2 * i - 1] = 6;
+        add(format!("equal high words, and low words that fall at threshold {i}"), &|call| {
+            call.cdt.fill(7);
+            call.cdt[10 + i..].fill(6);
+        });
+        add(format!("high words that fall at threshold {i}, and low words that rise there"), &|call| {
+            call.cdt.fill(7);
+            call.cdt[i..10].fill(6);
+            call.cdt[10 + i..].fill(8);
         });
     }
     for place in 0..21 {

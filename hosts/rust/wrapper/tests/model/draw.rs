@@ -1,10 +1,15 @@
 //! A draw, with its attempts.
 
+use std::array;
+
 use super::{degree_is_served, entry, exponential, list_polynomial, of_62, written, Session, ONE, POLYNOMIAL};
 
-/// The value of threshold i (from 0), high × 2^62 + low.
-pub fn threshold(cdt: &[u64], i: usize) -> u128 {
-    u128::from(cdt[2 * i]) * ONE + u128::from(cdt[2 * i + 1])
+/// The order of a CDT table's words: which ten thresholds they make.
+pub type Order = fn(&[u64]) -> [u128; 10];
+
+/// Document 02's order: ten high words, and then ten low words. Threshold i (from 0) is high × 2^62 + low.
+pub fn thresholds(cdt: &[u64]) -> [u128; 10] {
+    array::from_fn(|i| u128::from(cdt[i]) * ONE + u128::from(cdt[10 + i]))
 }
 
 /// An attempt by its four words.
@@ -25,11 +30,11 @@ pub struct Attempt {
 }
 
 impl Attempt {
-    pub fn of(words: [u64; 4], cdt: &[u64]) -> Attempt {
+    pub fn of(words: [u64; 4], thresholds: &[u128; 10]) -> Attempt {
         let d = of_62(words[0]) * ONE + of_62(words[1]);
         let mut x = 0;
-        for i in 0..10 {
-            if threshold(cdt, i) <= d {
+        for &threshold in thresholds {
+            if threshold <= d {
                 x += 1;
             }
         }
@@ -87,14 +92,15 @@ pub struct Drawn {
     pub attempts: Vec<Attempt>,
 }
 
-fn cdt_is_right(cdt: &[u64]) -> bool {
+fn cdt_is_right(order: Order, cdt: &[u64]) -> bool {
     for &word in cdt {
         if u128::from(word) >= ONE {
             return false;
         }
     }
+    let thresholds = order(cdt);
     for i in 1..10 {
-        if threshold(cdt, i) < threshold(cdt, i - 1) {
+        if thresholds[i] < thresholds[i - 1] {
             return false;
         }
     }
@@ -112,7 +118,7 @@ pub fn list_asked(limit: usize) -> usize {
 }
 
 /// The first refusal that applies to a draw, or 0.
-fn refusal_of_draw(call: &Call) -> u32 {
+fn refusal_of_draw(order: Order, call: &Call) -> u32 {
     let n = call.session.degree;
     let limit = call.limit;
     if !degree_is_served(n) {
@@ -121,7 +127,7 @@ fn refusal_of_draw(call: &Call) -> u32 {
     if call.cdt.len() != 20 || call.polynomial.len() != 21 || call.y.len() != 2 * n {
         return 2;
     }
-    if !cdt_is_right(&call.cdt) {
+    if !cdt_is_right(order, &call.cdt) {
         return 3;
     }
     if call.polynomial != POLYNOMIAL {
@@ -162,18 +168,24 @@ fn list_attempt(entries: &mut Vec<u32>, t: usize, accepted: usize) {
 }
 
 pub fn draw(call: &Call) -> Drawn {
-    let refusal = refusal_of_draw(call);
+    draw_in(thresholds, call)
+}
+
+/// A draw by a table whose words stand in this order.
+pub fn draw_in(order: Order, call: &Call) -> Drawn {
+    let refusal = refusal_of_draw(order, call);
     if refusal != 0 {
         return refused(call, refusal);
     }
     let n = call.session.degree;
+    let thresholds = order(&call.cdt);
     let mut entries = vec![entry(1, n)];
     let mut attempts = Vec::new();
     let mut samples = Vec::new();
     while samples.len() < 2 * n && attempts.len() < call.limit {
         let t = attempts.len();
         let words = [call.words[4 * t], call.words[4 * t + 1], call.words[4 * t + 2], call.words[4 * t + 3]];
-        let attempt = Attempt::of(words, &call.cdt);
+        let attempt = Attempt::of(words, &thresholds);
         list_attempt(&mut entries, t, samples.len());
         if attempt.accepted() {
             samples.push(attempt.sample());

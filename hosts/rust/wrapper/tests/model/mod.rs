@@ -1,6 +1,6 @@
-//! Document 01's opening, draw, respond, filled part and exponential, and document 02's key check, test of z1, records and blank
-//! response, written from these documents alone, in whole numbers wide enough for each sum and in plain loops. What the box must
-//! answer, and leave behind, for every input.
+//! Document 01's opening, draw, respond, filled part and exponential, and document 02's key check, test of z1, records, blank
+//! response and order of the CDT, written from these documents alone, in whole numbers wide enough for each sum and in plain
+//! loops. What the box must answer, and leave behind, for every input.
 
 pub mod draw;
 pub mod key_check;

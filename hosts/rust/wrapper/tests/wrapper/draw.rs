@@ -1,6 +1,7 @@
 //! The draw with memory that the host lends.
 
-use bliss_box::{draw_list_length, draw_word_count, sample_count, Counts, Drawn, Refusal, Session, CDT, POLYNOMIAL};
+use bliss_box::{draw_list_length, draw_word_count, sample_count};
+use bliss_box::{Counts, Drawn, Entry, Kind, Refusal, Session, CDT, POLYNOMIAL};
 
 use crate::{LIMIT, N};
 
@@ -98,23 +99,62 @@ fn empty_slices_are_refused_and_not_read() {
     assert_eq!(drawn.answer, Err(Refusal::List));
 }
 
+/// The sample by this table and these words, and word 3 of 0. None where it is never accepted.
+fn sample(cdt: &[u64], high: u64, low: u64, word_2: u64) -> Option<i32> {
+    let words = [high, low, word_2, 0].repeat(LIMIT);
+    let mut y = [0; sample_count(N)];
+    let session = Session::open(N).unwrap();
+    let drawn = session.draw(LIMIT, cdt, &POLYNOMIAL, &words, &mut y, &mut [0; draw_list_length(LIMIT)]);
+    assert!(drawn.answer.is_ok());
+    drawn.session.is_drawn().then_some(y[0])
+}
+
 #[test]
 fn the_known_points_of_an_attempt_hold() {
-    let thresholds: Vec<u64> = (1..=10).flat_map(|i| [i << 40, 0]).collect();
+    let cdt: Vec<u64> = (1..=10).map(|i| i << 40).chain([0; 10]).collect();
     let all = (1 << 62) - 1;
-    let sample = |high: u64, low: u64, word_2: u64| {
-        let words = [high, low, word_2, 0].repeat(LIMIT);
-        let mut y = [0; sample_count(N)];
-        let session = Session::open(N).unwrap();
-        let drawn = session.draw(LIMIT, &thresholds, &POLYNOMIAL, &words, &mut y, &mut [0; draw_list_length(LIMIT)]);
-        drawn.session.is_drawn().then_some(y[0])
-    };
-    assert_eq!(sample(0, 0, 0), Some(0));
-    assert_eq!(sample((1 << 40) - 1, all, 0), Some(0));
-    assert_eq!(sample(1 << 40, 0, 0), Some(256));
-    assert_eq!(sample(all, 0, 0), Some(2560));
-    assert_eq!(sample(0, 0, 257), Some(-1));
-    assert_eq!(sample(0, 0, 256), None);
+    assert_eq!(sample(&cdt, 0, 0, 0), Some(0));
+    assert_eq!(sample(&cdt, (1 << 40) - 1, all, 0), Some(0));
+    assert_eq!(sample(&cdt, 1 << 40, 0, 0), Some(256));
+    assert_eq!(sample(&cdt, all, 0, 0), Some(2560));
+    assert_eq!(sample(&cdt, 0, 0, 257), Some(-1));
+    assert_eq!(sample(&cdt, 0, 0, 256), None);
+}
+
+/// Document 01's order, in which a low word follows each high word.
+#[test]
+fn tables_of_the_old_order_are_refused() {
+    let default: Vec<u64> = (0..10).flat_map(|i| [CDT[i], CDT[10 + i]]).collect();
+    let known_points: Vec<u64> = (1..=10).flat_map(|i| [i << 40, 0]).collect();
+    for cdt in [default, known_points] {
+        let (mut y, mut list) = ([1; sample_count(N)], [9; draw_list_length(LIMIT)]);
+        let words = [0; draw_word_count(LIMIT)];
+        let refused = drawn_session().draw(LIMIT, &cdt, &POLYNOMIAL, &words, &mut y, &mut list);
+        assert_eq!(refused.answer, Err(Refusal::Cdt));
+        assert!(refused.session.is_drawn());
+        assert_eq!(refused.session.degree(), N);
+        assert_eq!(y, [1; 8]);
+        assert_eq!(list, [9; draw_list_length(LIMIT)]);
+    }
+}
+
+#[test]
+fn a_table_that_is_right_in_both_orders_is_taken_in_the_new_one() {
+    // Threshold i, from 0, is i × 2^62 + 10 + i. In the old order threshold 3 would be 6 × 2^62 + 7, and above both draws.
+    let ascending: Vec<u64> = (0..20).collect();
+    assert_eq!(sample(&ascending, 5, 14, 0), Some(5 * 256));
+    assert_eq!(sample(&ascending, 5, 15, 0), Some(6 * 256));
+    // Ten thresholds of 7 × 2^62 + 7, in either order.
+    assert_eq!(sample(&[7; 20], 7, 6, 0), Some(0));
+    assert_eq!(sample(&[7; 20], 7, 7, 0), Some(10 * 256));
+}
+
+#[test]
+fn each_attempt_lists_every_word_of_the_cdt_in_order() {
+    let (_, _, list) = draw(Session::open(N).unwrap(), 0);
+    let entries = list.into_iter().map(Entry).filter(|entry| entry.kind() == Some(Kind::Cdt));
+    let places: Vec<usize> = entries.map(Entry::place).collect();
+    assert_eq!(places, (0..20).collect::<Vec<usize>>().repeat(LIMIT));
 }
 
 #[test]
