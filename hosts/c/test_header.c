@@ -174,6 +174,55 @@ static bool lengths_end_at_their_limit(void)
            bliss_packed_length(BLISS_VALUE_LIMIT + 1) == 0;
 }
 
+/* The header's CDT table in the order of before: the high word and the low word of each threshold together. */
+static uint64_t former_cdt[BLISS_CDT_WORDS];
+
+static void fill_former_cdt(void)
+{
+    for (size_t i = 0; i < BLISS_CDT_WORDS; i++)
+        former_cdt[i] = cdt[i / 2 + i % 2 * (BLISS_CDT_WORDS / 2)];
+}
+
+/* A host that still lends it is told so, and session, y and list stay as they were. */
+static bool former_cdt_is_refused(void)
+{
+    enum { SAMPLES = BLISS_SAMPLES(DEGREE), ENTRIES = BLISS_DRAW_ENTRIES(LIMIT) };
+    static int32_t noise[SAMPLES];
+    static uint32_t list[ENTRIES];
+    const bliss_session session = {DEGREE, true};
+    bliss_drawn drawn;
+
+    for (size_t i = 0; i < SAMPLES; i++)
+        noise[i] = -1;
+    for (size_t i = 0; i < ENTRIES; i++)
+        list[i] = UINT32_MAX;
+    drawn = bliss_draw(session, LIMIT, former_cdt, BLISS_CDT_WORDS, polynomial, BLISS_POLYNOMIAL_WORDS, draw_words,
+                       BLISS_DRAW_WORDS(LIMIT), noise, SAMPLES, list, ENTRIES);
+    for (size_t i = 0; i < SAMPLES; i++)
+        if (noise[i] != -1)
+            return false;
+    for (size_t i = 0; i < ENTRIES; i++)
+        if (list[i] != UINT32_MAX)
+            return false;
+    return drawn.answer.refusal == BLISS_REFUSED_CDT && drawn.answer.attempts == 0 && drawn.answer.accepted == 0 &&
+           drawn.answer.entries == 0 && drawn.session.degree == session.degree && drawn.session.drawn == session.drawn;
+}
+
+/* The loop of docs/HOST-GUIDE.md makes the header's of it. */
+static bool former_cdt_is_reordered(void)
+{
+    uint64_t reordered[BLISS_CDT_WORDS];
+
+    for (size_t i = 0; i < BLISS_CDT_WORDS / 2; i++) {
+        reordered[i] = former_cdt[2 * i];
+        reordered[BLISS_CDT_WORDS / 2 + i] = former_cdt[2 * i + 1];
+    }
+    for (size_t i = 0; i < BLISS_CDT_WORDS; i++)
+        if (reordered[i] != cdt[i])
+            return false;
+    return true;
+}
+
 int main(void)
 {
     bliss_opened opened;
@@ -189,5 +238,8 @@ int main(void)
         return 4;
     if (!record_ends_at_its_limits() || !lengths_end_at_their_limit())
         return 5;
-    return POSITIONS <= BLISS_CHALLENGE_LIMIT(DEGREE) && BLISS_STACK_BYTES > 0 && BLISS_CHECK_KEY_STACK_BYTES > 0 ? 0 : 6;
+    fill_former_cdt();
+    if (!former_cdt_is_refused() || !former_cdt_is_reordered())
+        return 6;
+    return POSITIONS <= BLISS_CHALLENGE_LIMIT(DEGREE) && BLISS_STACK_BYTES > 0 && BLISS_CHECK_KEY_STACK_BYTES > 0 ? 0 : 7;
 }

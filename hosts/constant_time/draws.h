@@ -15,6 +15,14 @@ struct draw {
     uint64_t state; /* of the generator */
 };
 
+/* The thresholds of a CDT table: their high words stand first, and then their low words. */
+enum { THRESHOLDS = BLISS_CDT_WORDS / 2 };
+
+static inline uint64_t low62(uint64_t word)
+{
+    return word << 2 >> 2;
+}
+
 static inline u128 two_words(uint64_t high, uint64_t low)
 {
     return (u128)high << 62 | low;
@@ -22,38 +30,46 @@ static inline u128 two_words(uint64_t high, uint64_t low)
 
 static inline u128 threshold(size_t i)
 {
-    return two_words(cdt[2 * i], cdt[2 * i + 1]);
+    return two_words(cdt[i], cdt[THRESHOLDS + i]);
 }
 
-/* Any d, or as often a threshold or the number below it: so each base sample occurs, and each edge of one. */
-static inline u128 secret_draw(void)
+static inline u128 secret_threshold(void)
 {
-    u128 d = two_words(secret_word() >> 2, secret_word() >> 2);
-    uint64_t chosen = secret_below(20);
-    uint64_t less = secret_bit();
+    uint64_t chosen = secret_below(THRESHOLDS);
+    u128 found = 0;
 
-    for (size_t i = 0; i < 10; i++) {
-        u128 here = -(u128)(i == chosen);
+    for (size_t i = 0; i < THRESHOLDS; i++)
+        found |= threshold(i) & -(u128)(i == chosen);
+    return found;
+}
 
-        d = ((threshold(i) - less) & here) | (d & ~here);
-    }
-    return d;
+/* The kinds of d: any number, of which the high word decides; or one with the high word of a threshold, so that the low word
+ * decides: any such number, the threshold, or the number below it. So each base sample occurs, and each edge of one. */
+enum { ANY_D, SAME_HIGH_WORD, AT_THRESHOLD, BELOW_THRESHOLD };
+
+static inline u128 secret_draw(uint64_t kind)
+{
+    u128 near = secret_threshold() - (kind == BELOW_THRESHOLD);
+    uint64_t high = if_bit(kind != ANY_D, (uint64_t)(near >> 62), low62(secret_word()));
+    uint64_t low = if_bit(kind >= AT_THRESHOLD, low62((uint64_t)near), low62(secret_word()));
+
+    return two_words(high, low);
 }
 
 static inline uint64_t base_sample(u128 d)
 {
     uint64_t x = 0;
 
-    for (size_t i = 0; i < 10; i++)
+    for (size_t i = 0; i < THRESHOLDS; i++)
         x += threshold(i) <= d;
     return x;
 }
 
-/* The words of an attempt with this accept bit. */
-static inline void fill_attempt(uint64_t *w, uint64_t bit)
+/* The words of an attempt with this accept bit and this kind of d; a minus zero has a d of 0. */
+static inline void fill_attempt(uint64_t *w, uint64_t bit, uint64_t kind)
 {
     uint64_t minus_zero = secret_bit() & ~bit & 1;
-    u128 d = secret_draw() & ((u128)minus_zero - 1);
+    u128 d = secret_draw(kind) & ((u128)minus_zero - 1);
     /* A rejected attempt has b of 1 or more, so that e(N) is below 2^62; a minus zero has 0. */
     uint64_t b = (1 - bit + secret_below(255 + bit)) & (minus_zero - 1);
     uint64_t x = base_sample(d);
@@ -63,23 +79,30 @@ static inline void fill_attempt(uint64_t *w, uint64_t bit)
     uint64_t bound = if_bit(bit, e, (UINT64_C(1) << 62) - least);
 
     w[0] = (uint64_t)(d >> 62) | secret_word() << 62;
-    w[1] = ((uint64_t)d << 2 >> 2) | secret_word() << 62;
+    w[1] = low62((uint64_t)d) | secret_word() << 62;
     w[2] = b | sign << 8 | secret_word() << 9;
     w[3] = (least + secret_at_edges(bound)) | secret_word() << 62;
 }
 
-/* Fills the words of a draw. Gives the samples that it will accept. */
-static inline size_t prepare_draw(struct draw draw)
+/* Fills the words of a draw, each attempt with the next kind of d. Gives the samples that it will accept. */
+static inline size_t prepare_draw_by(struct draw draw, uint64_t (*next_kind)(void))
 {
     size_t accepted = 0;
 
     for (size_t t = 0; t < draw.limit && accepted < BLISS_SAMPLES(draw.n); t++) {
         uint64_t bit = below(next(&draw.state), 16) < draw.chance && accepted < draw.most;
 
-        fill_attempt(lent.draw_words + 4 * t, bit);
+        fill_attempt(lent.draw_words + 4 * t, bit, next_kind());
         accepted += bit;
     }
     return accepted;
+}
+
+/* At each attempt four seeds in a row have the four kinds: so traces where the high word decides are compared with traces where
+ * the low word does. */
+static inline size_t prepare_draw(struct draw draw)
+{
+    return prepare_draw_by(draw, secret_turn);
 }
 
 static inline bliss_drawn made_draw(struct draw draw)

@@ -24,13 +24,59 @@ LEAK leaking_lookup(uint64_t n)
     return polynomial[n % BLISS_POLYNOMIAL_WORDS];
 }
 
-/* A scan that ends at the first threshold above d. */
-LEAK early_exit_scan(const uint64_t *w)
+/* A word of the CDT table, by a load that the compiler keeps. */
+static inline uint64_t cdt_word(size_t place)
+{
+    return *(const volatile uint64_t *)&cdt[place];
+}
+
+/* The number of thresholds at or below d among the first, of which these are the high words. */
+static inline uint64_t at_or_below(const uint64_t *high, size_t thresholds, const uint64_t *w)
 {
     uint64_t x = 0;
 
-    while (x < 10 && threshold(x) <= two_words(w[0] << 2 >> 2, w[1] << 2 >> 2))
-        x++;
+    for (size_t i = 0; i < thresholds; i++)
+        x += two_words(high[i], cdt_word(THRESHOLDS + i)) <= two_words(low62(w[0]), low62(w[1]));
+    return x;
+}
+
+/* A scan that leaves the high words at the first above d's. */
+LEAK early_exit_scan(const uint64_t *w)
+{
+    uint64_t high[THRESHOLDS];
+    size_t held = 0;
+
+    while (held < THRESHOLDS && (high[held] = cdt_word(held)) <= low62(w[0]))
+        held++;
+    return at_or_below(high, held, w);
+}
+
+/* A scan that reads all high words, holds those up to d's, and reads as many low words. */
+LEAK few_held_scan(const uint64_t *w)
+{
+    uint64_t high[THRESHOLDS];
+    size_t held = 0;
+
+    for (size_t i = 0; i < THRESHOLDS; i++) {
+        high[held] = cdt_word(i);
+        held += high[held] <= low62(w[0]);
+    }
+    return at_or_below(high, held, w);
+}
+
+/* A scan that reads and holds all high words, and of the low words those that decide, where the high words are equal. */
+LEAK skipping_scan(const uint64_t *w)
+{
+    uint64_t high[THRESHOLDS];
+    uint64_t x = 0;
+
+    for (size_t i = 0; i < THRESHOLDS; i++)
+        high[i] = cdt_word(i);
+    for (size_t i = 0; i < THRESHOLDS; i++)
+        if (high[i] == low62(w[0]))
+            x += cdt_word(THRESHOLDS + i) <= low62(w[1]);
+        else
+            x += high[i] < low62(w[0]);
     return x;
 }
 

@@ -110,6 +110,43 @@ static void out_of_order(void)
     }
 }
 
+/* High and low word of one threshold after the other. */
+static void by_thresholds(void)
+{
+    for (size_t i = 0; i < BLISS_CDT_WORDS; i++) {
+        lists(i);
+        reads(i % 2 * THRESHOLDS + i / 2);
+    }
+}
+
+static void low_words_first(void)
+{
+    for (size_t i = 0; i < BLISS_CDT_WORDS; i++) {
+        lists(i);
+        reads((i + THRESHOLDS) % BLISS_CDT_WORDS);
+    }
+}
+
+/* The high words are not held: each is read again where its low word comes. */
+static void high_words_again(void)
+{
+    for (size_t i = 0; i < BLISS_CDT_WORDS; i++) {
+        lists(i);
+        if (i >= THRESHOLDS)
+            reads(i - THRESHOLDS);
+        reads(i);
+    }
+}
+
+static void low_word_left_out(void)
+{
+    for (size_t i = 0; i < BLISS_CDT_WORDS; i++) {
+        lists(i);
+        if (i != THRESHOLDS)
+            reads(i);
+    }
+}
+
 static void twice(void)
 {
     as_listed();
@@ -154,6 +191,10 @@ static const struct function {
 } functions[] = {
     {"as_listed", as_listed},
     {"out_of_order", out_of_order},
+    {"by_thresholds", by_thresholds},
+    {"low_words_first", low_words_first},
+    {"high_words_again", high_words_again},
+    {"low_word_left_out", low_word_left_out},
     {"twice", twice},
     {"not_listed", not_listed},
     {"not_read", not_read},

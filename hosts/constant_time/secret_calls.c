@@ -245,13 +245,29 @@ static void leaking_place(void)
     }
 }
 
-static void leaking_scan(void)
+/* Scans of the first attempt of a draw. */
+static void leak_by_scan(uint64_t (*scan)(const uint64_t *))
 {
     for (uint64_t i = 0; i < OFTEN; i++) {
         prepare_draw((struct draw){4, 128, 8, 11, i});
         begin_call();
-        result = early_exit_scan(lent.draw_words);
+        result = scan(lent.draw_words);
     }
+}
+
+static void leaking_high_words(void)
+{
+    leak_by_scan(early_exit_scan);
+}
+
+static void leaking_held_words(void)
+{
+    leak_by_scan(few_held_scan);
+}
+
+static void leaking_low_words(void)
+{
+    leak_by_scan(skipping_scan);
 }
 
 static void leaking_check(void)
@@ -302,7 +318,9 @@ static const struct kind {
     {"key_refused_13", key_refused_13},
     {"leaking_n", leaking_n},
     {"leaking_place", leaking_place},
-    {"leaking_scan", leaking_scan},
+    {"leaking_high_words", leaking_high_words},
+    {"leaking_held_words", leaking_held_words},
+    {"leaking_low_words", leaking_low_words},
     {"leaking_check", leaking_check},
     {"leaking_coefficients", leaking_coefficients},
     {"leaking_pick", leaking_pick},

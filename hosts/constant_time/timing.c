@@ -70,12 +70,37 @@ static void zero_attempt(void)
 
 static void any_attempt(void)
 {
-    fill_attempt(lent.draw_words, 1);
+    fill_attempt(lent.draw_words, 1, secret_turn());
+}
+
+static void attempt_by_low_word(void)
+{
+    fill_attempt(lent.draw_words, 1, SAME_HIGH_WORD);
 }
 
 static void any_draw(void)
 {
     prepare_draw(full);
+}
+
+static uint64_t any_d(void)
+{
+    return ANY_D;
+}
+
+static uint64_t same_high_word(void)
+{
+    return SAME_HIGH_WORD;
+}
+
+static void by_high_words(void)
+{
+    prepare_draw_by(full, any_d);
+}
+
+static void by_low_words(void)
+{
+    prepare_draw_by(full, same_high_word);
 }
 
 static void any_accepted(void)
@@ -190,6 +215,12 @@ static uint64_t call_early_exit_scan(void)
     return 0;
 }
 
+static uint64_t call_skipping_scan(void)
+{
+    found = skipping_scan(lent.draw_words);
+    return 0;
+}
+
 static uint64_t call_early_exit_check(void)
 {
     return early_exit_check(lent.key, 2 * accepted.n);
@@ -203,6 +234,7 @@ static uint64_t call_early_exit_check(void)
 static const struct timed all_timed[] = {
     {"bliss_exponential: n is 0, or any", zero_n, any_n, call_exponential, 0, N, 1000000, false},
     {"bliss_draw, full", any_draw, any_draw, call_draw, 1024, WORDS, 10000, false},
+    {"bliss_draw, full: by high words, or by low words", by_high_words, by_low_words, call_draw, 1024, WORDS, 10000, false},
     {"bliss_respond, bit 1", any_accepted, any_accepted, call_respond, 1, RESPONSE, 20000, false},
     {"bliss_respond, bit 0", any_rejected, any_rejected, call_respond, 0, RESPONSE, 20000, false},
     {"bliss_respond, bit 0: by z1 alone, or by others", by_z1_alone, by_others, call_respond, 0, RESPONSE, 20000, false},
@@ -214,6 +246,7 @@ static const struct timed all_timed[] = {
     {"bliss_check_key, refusal 10: bad first or anywhere", bad_key_first, bad_key_any, call_check_key, 10, RESPONSE, 50000, false},
     {"leaking: a loop of n mod 16 turns", zero_n, any_n, call_leaking_exponential, 0, N, 1000000, true},
     {"leaking: a scan that ends above d", zero_attempt, any_attempt, call_early_exit_scan, 0, ATTEMPT, 1000000, true},
+    {"leaking: a scan that skips low words", zero_attempt, attempt_by_low_word, call_skipping_scan, 0, ATTEMPT, 1000000, true},
     {"leaking: a check that ends at the bad value", bad_key_first, bad_key_any, call_early_exit_check, 0, RESPONSE, 50000, true},
 };
 
