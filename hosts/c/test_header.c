@@ -174,17 +174,17 @@ static bool lengths_end_at_their_limit(void)
            bliss_packed_length(BLISS_VALUE_LIMIT + 1) == 0;
 }
 
-/* The header's CDT table in the order of before: the high word and the low word of each threshold together. */
-static uint64_t former_cdt[BLISS_CDT_WORDS];
+/* The header's CDT table in the old order: the high word and the low word of each threshold together. */
+static uint64_t old_cdt[BLISS_CDT_WORDS];
 
-static void fill_former_cdt(void)
+static void fill_old_cdt(void)
 {
     for (size_t i = 0; i < BLISS_CDT_WORDS; i++)
-        former_cdt[i] = cdt[i / 2 + i % 2 * (BLISS_CDT_WORDS / 2)];
+        old_cdt[i] = cdt[i / 2 + i % 2 * (BLISS_CDT_WORDS / 2)];
 }
 
 /* A host that still lends it is told so, and session, y and list stay as they were. */
-static bool former_cdt_is_refused(void)
+static bool old_cdt_is_refused(void)
 {
     enum { SAMPLES = BLISS_SAMPLES(DEGREE), ENTRIES = BLISS_DRAW_ENTRIES(LIMIT) };
     static int32_t noise[SAMPLES];
@@ -196,7 +196,7 @@ static bool former_cdt_is_refused(void)
         noise[i] = -1;
     for (size_t i = 0; i < ENTRIES; i++)
         list[i] = UINT32_MAX;
-    drawn = bliss_draw(session, LIMIT, former_cdt, BLISS_CDT_WORDS, polynomial, BLISS_POLYNOMIAL_WORDS, draw_words,
+    drawn = bliss_draw(session, LIMIT, old_cdt, BLISS_CDT_WORDS, polynomial, BLISS_POLYNOMIAL_WORDS, draw_words,
                        BLISS_DRAW_WORDS(LIMIT), noise, SAMPLES, list, ENTRIES);
     for (size_t i = 0; i < SAMPLES; i++)
         if (noise[i] != -1)
@@ -209,13 +209,13 @@ static bool former_cdt_is_refused(void)
 }
 
 /* The loop of docs/HOST-GUIDE.md makes the header's of it. */
-static bool former_cdt_is_reordered(void)
+static bool old_cdt_is_reordered(void)
 {
     uint64_t reordered[BLISS_CDT_WORDS];
 
     for (size_t i = 0; i < BLISS_CDT_WORDS / 2; i++) {
-        reordered[i] = former_cdt[2 * i];
-        reordered[BLISS_CDT_WORDS / 2 + i] = former_cdt[2 * i + 1];
+        reordered[i] = old_cdt[2 * i];
+        reordered[BLISS_CDT_WORDS / 2 + i] = old_cdt[2 * i + 1];
     }
     for (size_t i = 0; i < BLISS_CDT_WORDS; i++)
         if (reordered[i] != cdt[i])
@@ -238,8 +238,8 @@ int main(void)
         return 4;
     if (!record_ends_at_its_limits() || !lengths_end_at_their_limit())
         return 5;
-    fill_former_cdt();
-    if (!former_cdt_is_refused() || !former_cdt_is_reordered())
+    fill_old_cdt();
+    if (!old_cdt_is_refused() || !old_cdt_is_reordered())
         return 6;
     return POSITIONS <= BLISS_CHALLENGE_LIMIT(DEGREE) && BLISS_STACK_BYTES > 0 && BLISS_CHECK_KEY_STACK_BYTES > 0 ? 0 : 7;
 }

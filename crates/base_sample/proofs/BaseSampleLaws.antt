@@ -1,29 +1,25 @@
 -- The base sample is x exactly when d is at or above just x thresholds, and never falls as d rises. Assumes nothing.
-use mathlib.Core.Path.{_≡_, refl, sym, ap, ap₂, _∙_, subst}
+use mathlib.Core.Path.{_≡_, refl, subst}
 use mathlib.Core.Bool.{Bool, true, false}
-use mathlib.Core.List.{List, _++_}
+use mathlib.Core.List.{List}
 use mathlib.Core.Logic.{⊎-elim}
-use Prim.Native.Nat.{ℕ, zero, suc, _+_, _*_, _^_, _≤_, _<_}
+use Prim.Native.Nat.{ℕ, zero, suc, _+_, _≤_, _<_}
 use native.Mathlib.Nat.{le-trans, le-refl, lt-of-lt-of-le, lt-of-not-le, lt-irrefl, le-antisymm, eq-or-lt-of-le, add-le-add}
 use native.Mathlib.Nat.{not-suc-le-zero, le-of-suc-le-suc}
 use native.Mathlib.Omega.{arith}
 use lib.Arith.{le-zero}
 use lib.Dec.{leb}
-use lib.ListN.{getD, List·getD-append}
-use lib.Seq.{getD-append-add}
 use borrow.Author.Tests.{leb-true, leb-false, le-leb}
 use Rattle.arithmetic.specs.Words.{bit}
 use Rattle.checks.proofs.AllBelow.{all-at}
 use Rattle.base_sample.specs.BaseSample.{threshold, neverFalls, atOrBelow, baseSample, AtJust, BaseSampleExactly, BaseSampleRises}
 use Rattle.base_sample.specs.BaseSample.{ThresholdByItsWords, Rising}
+use Rattle.base_sample.proofs.Thresholds.{high-word, low-word}
 
 -- ** Thresholds that never fall
 
 pub threshold-by-its-words : ThresholdByItsWords
-threshold-by-its-words high low i h g =
-    let high-word = List·getD-append high low 0 i (omega (arith, h)) in
-    let low-word = ap (λ (n : ℕ). getD (high ++ low) (n + i) 0) (sym h) ∙ getD-append-add high low i 0 in
-    ap₂ (λ (m n : ℕ). m * 2 ^ 62 + n) high-word low-word
+threshold-by-its-words high low i ten h = rw (high-word high low i ten h, low-word high low i ten)
 
 pub rising : (cdt : List ℕ) → neverFalls (threshold cdt) ≡ true → Rising cdt
 unfolding neverFalls

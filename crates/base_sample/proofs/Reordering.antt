@@ -5,12 +5,13 @@ use mathlib.Core.Bool.{_&&_}
 use mathlib.Core.List.{List, [], _∷_, _++_}
 use Prim.Native.Nat.{ℕ, zero, suc, _+_, _*_, _<_}
 use native.Mathlib.Omega.{arith}
-use lib.ListN.{length, getD, take, drop, length-append, length-drop, take-append-drop, List·getD-append}
-use lib.Seq.{getD-append-add, take-at, drop-at, length-take-le}
+use lib.ListN.{length, getD, take, drop, length-append, length-drop, take-append-drop}
+use lib.Seq.{take-at, drop-at, length-take-le}
 use Rattle.checks.proofs.AllBelow.{all-same, all-split, all-twos}
 use Rattle.base_sample.specs.BaseSample.{threshold, wordsSmall, isCdt, baseSample}
 use Rattle.base_sample.specs.HighWordsFirst.{thresholdBefore, isCdtBefore, baseSampleBefore, firsts, seconds, reordered, inTurn}
 use Rattle.base_sample.specs.HighWordsFirst.{restored, ReorderedAlike, RestoredInverse}
+use Rattle.base_sample.proofs.Thresholds.{high-word, low-word}
 use Rattle.base_sample.proofs.Agreement.{same-order, same-count}
 
 -- ** Words in twos
@@ -40,24 +41,21 @@ length-firsts (w ∷ v ∷ words) (suc n) h = ap suc (length-firsts words n (ome
 -- ** Thresholds, and what is told by them
 
 module _ (table : List ℕ) (twenty : length table ≡ 20) where
-  high-word : (i : ℕ) → i < 10 → getD (reordered table) i 0 ≡ getD table (2 * i) 0
+  high-at : (i : ℕ) → i < 10 → getD (reordered table) i 0 ≡ getD table (2 * i) 0
   unfolding reordered
-  high-word i h =
-      List·getD-append (firsts table) (seconds table) 0 i (omega (arith, h, length-firsts table 10 twenty)) ∙ first-at table i
+  high-at i h = high-word (firsts table) (seconds table) i (length-firsts table 10 twenty) h ∙ first-at table i
 
-  low-word : (i : ℕ) → getD (reordered table) (10 + i) 0 ≡ getD table (2 * i + 1) 0
+  low-at : (i : ℕ) → getD (reordered table) (10 + i) 0 ≡ getD table (2 * i + 1) 0
   unfolding reordered
-  low-word i =
-      ap (λ (n : ℕ). getD (firsts table ++ seconds table) (n + i) 0) (sym (length-firsts table 10 twenty))
-      ∙ getD-append-add (firsts table) (seconds table) i 0 ∙ second-at table i
+  low-at i = low-word (firsts table) (seconds table) i (length-firsts table 10 twenty) ∙ second-at table i
 
   same-threshold : (i : ℕ) → i < 10 → threshold (reordered table) i ≡ thresholdBefore table i
-  same-threshold i h = rw (high-word i h, low-word i)
+  same-threshold i h = rw (high-at i h, low-at i)
 
   same-words-small : wordsSmall (reordered table) ≡ wordsSmall table
   unfolding wordsSmall
   same-words-small =
-      all-split _ 10 10 ∙ ap₂ _&&_ (all-same _ _ 10 (λ i h. rw (high-word i h))) (all-same _ _ 10 (λ i h. rw (low-word i)))
+      all-split _ 10 10 ∙ ap₂ _&&_ (all-same _ _ 10 (λ i h. rw (high-at i h))) (all-same _ _ 10 (λ i h. rw (low-at i)))
       ∙ sym (all-twos _ 10)
 
 pub reordered-alike : ReorderedAlike

@@ -1,11 +1,13 @@
 -- Thresholds: their words, their order, and the number of them at or below a draw. Assumes nothing.
-use mathlib.Core.Path.{_≡_, refl}
+use mathlib.Core.Path.{_≡_, refl, sym, ap, _∙_}
 use mathlib.Core.Bool.{Bool, true, false}
-use mathlib.Core.List.{List}
+use mathlib.Core.List.{List, _++_}
 use Prim.Native.Nat.{ℕ, _+_, _^_, _<_}
 use native.Mathlib.Numerals.{add-one}
+use native.Mathlib.Omega.{arith}
 use lib.Dec.{leb, ltb}
-use lib.ListN.{getD}
+use lib.ListN.{length, getD, List·getD-append}
+use lib.Seq.{getD-append-add}
 use borrow.Author.Tests.{ltb-true, ltb-false, le-leb, lt-leb}
 use Rattle.arithmetic.specs.Words.{bit}
 use Rattle.arithmetic.proofs.Bits.{bit-injective}
@@ -13,6 +15,13 @@ use Rattle.checks.proofs.AllBelow.{all-at}
 use Rattle.base_sample.specs.BaseSample.{wordsSmall, atOrBelow}
 
 -- ** Words and their order
+
+-- the words of ten high words and then ten low words
+pub high-word : (high low : List ℕ) (i : ℕ) → length high ≡ 10 → i < 10 → getD (high ++ low) i 0 ≡ getD high i 0
+high-word high low i ten h = List·getD-append high low 0 i (omega (arith, ten))
+
+pub low-word : (high low : List ℕ) (i : ℕ) → length high ≡ 10 → getD (high ++ low) (10 + i) 0 ≡ getD low i 0
+low-word high low i ten = ap (λ (n : ℕ). getD (high ++ low) (n + i) 0) (sym ten) ∙ getD-append-add high low i 0
 
 pub word-small : (cdt : List ℕ) (i : ℕ) → i < 20 → wordsSmall cdt ≡ true → getD cdt i 0 < 2 ^ 62
 unfolding wordsSmall

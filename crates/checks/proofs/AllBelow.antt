@@ -1,4 +1,4 @@
--- Tests at every number below another, as a loop makes them. Assumes nothing.
+-- Tests at every number below another, as a loop makes them and in two parts. Assumes nothing.
 use mathlib.Core.Path.{_≡_, refl, sym, ap, ap₂, _∙_}
 use mathlib.Core.Bool.{Bool, true, false, _&&_, and-true, and-false, and-assoc, false≢true}
 use Prim.Native.Nat.{ℕ, zero, suc, _+_, _*_, _≤_, _<_}
@@ -47,7 +47,7 @@ all-same test test′ (suc n) same = ap₂ _&&_ (all-same test test′ n (λ i h
 
 -- ** In two parts
 
--- the first numbers, and the count of them behind
+-- the numbers below m, and the n numbers from m on
 pub all-split : (test : ℕ → Bool) (m n : ℕ) → allBelow test (m + n) ≡ (allBelow test m && allBelow (λ (i : ℕ). test (m + i)) n)
 unfolding allBelow
 all-split test m zero = rw (add-zero m) (sym (and-true (allBelow test m)))

@@ -1,5 +1,5 @@
 -- Request S-6, as the caller sees it. Assumes nothing.
-use mathlib.Core.Path.{_≡_, refl, sym, ap, _∙_, fun-ext, subst}
+use mathlib.Core.Path.{_≡_, refl, ap, _∙_, fun-ext, subst}
 use mathlib.Core.List.{List}
 use Prim.Native.Nat.{ℕ, _*_}
 use native.Mathlib.Omega.{arith}
@@ -29,7 +29,7 @@ draw-refused-as-before s d table is-reordered =
 
 -- ** A draw that is served
 
--- the base samples of its own table
+-- by the base samples of its own table
 drawn-by : (s : Session) (d : Draw) → drawLeft s d .drawn .answer .refusal ≡ 0
     → DrawnBy (baseSample (d .cdt)) s d (drawLeft s d) (bitsOfDraw s d)
 unfolding drawServed sampledBy drawY bitsOfDraw drawBits bitAt sampleAt
@@ -42,12 +42,12 @@ drawn-by s d h =
       list = refl;
     })
 
--- are those of document 01's order where it is a reordering
+-- those of a reordering are those of document 01's order with the table
 same-base-samples : (table : List ℕ) → length table ≡ 20 → baseSample (reordered table) ≡ baseSampleBefore table
 same-base-samples table twenty = fun-ext (reordered-alike table twenty .base-samples)
 
 pub drawn-as-before : DrawnAsBefore
 drawn-as-before s d table is-reordered h =
-    let twenty = sym (ap length is-reordered ∙ length-reordered table) ∙ draw-passed s d h .twenty in
+    let twenty : length table ≡ 20 = omega (arith, ap length is-reordered, length-reordered table, draw-passed s d h .twenty) in
     subst (λ (x : ℕ → ℕ). DrawnBy x s d (drawLeft s d) (bitsOfDraw s d)) (ap baseSample is-reordered ∙ same-base-samples table twenty)
     (drawn-by s d h)
