@@ -54,8 +54,8 @@ extern "C" {
  * C99 has no static assertions. */
 #define BLISS_LAYOUT(name, claim) typedef char bliss_layout_of_##name[(claim) ? 1 : -1]
 
-/* The version of this header, 10000 * major + 100 * minor + patch: 0.8.0. */
-#define BLISS_BOX_VERSION 800
+/* The version of this header, 10000 * major + 100 * minor + patch: 0.9.0. */
+#define BLISS_BOX_VERSION 900
 
 /* The version of the archive, by the same rule. A host compares it with BLISS_BOX_VERSION at its start, before any other call,
  * and ends where they differ: a session travels by value, and an archive of another version may take its bytes for something
@@ -429,7 +429,7 @@ size_t bliss_packed_length(uint32_t size);
 #define BLISS_EXPONENTIAL_REFUSED ((UINT64_C(1) << 63) + 12)
 
 /* e(n), near exp(-n / 92450), as a whole number of units of 2^-62: 0 to 2^62.
- * Gives:   e(n) for n from 0 to BLISS_EXPONENTIAL_LIMIT, within 1024 units of the 64th power of the sum over j = 0..20 of
+ * Gives:   e(n) for n from 0 to BLISS_EXPONENTIAL_LIMIT, within 960 units of the 64th power of the sum over j = 0..20 of
  *          (-n / 5916800)^j / j!.
  * Refuses: any other n, by BLISS_EXPONENTIAL_REFUSED.
  * Time:    apart from the test of the limit, no jump and no address depends on n. */

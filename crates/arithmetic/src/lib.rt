@@ -73,27 +73,39 @@ fn mul32(a: u64, b: u64) -> u64
     a * b
 }
 
-// The product of two words, by columns of 32 bits with their carries.
-pub fn product(a: u64, b: u64) -> Wide
-    ensures { λ r. ⌜ value r ≡ a * b ⌝ }
+// The high word of a product, by columns of 32 bits with their carries. The compiler makes one multiplication of it.
+pub fn high_word(a: u64, b: u64) -> u64
+    ensures { λ r. ⌜ r ≡ a * b / 2 ^ 64 ⌝ }
 {
     let a0 = low32(a);
     let a1 = high32(a);
     let b0 = low32(b);
     let b1 = high32(b);
-    let w0 = mul32(a0, b0);
-    let t = mul32(a1, b0) + high32(w0);
-    let w1 = low32(t) + mul32(a0, b1);
-    let high = mul32(a1, b1) + high32(t) + high32(w1);
-    let low = (low32(w1) << 32) + low32(w0);
-    Wide { high, low }
+    let t = mul32(a1, b0) + high32(mul32(a0, b0));
+    let u = low32(t) + mul32(a0, b1);
+    mul32(a1, b1) + high32(t) + high32(u)
 }
 
-// The high word of a product. The compiler makes one multiplication of it.
-pub fn high_word(a: u64, b: u64) -> u64
-    ensures { λ r. ⌜ r ≡ a * b / 2 ^ 64 ⌝ }
+// The low word of a product, by the columns that reach it. Beside the high word it costs no multiplication more.
+fn low_word(a: u64, b: u64) -> u64
+    ensures { λ r. ⌜ r ≡ a * b % 2 ^ 64 ⌝ }
 {
-    product(a, b).high
+    let a0 = low32(a);
+    let a1 = high32(a);
+    let b0 = low32(b);
+    let b1 = high32(b);
+    let w = mul32(a0, b0);
+    let column = low32(mul32(a1, b0)) + low32(mul32(a0, b1)) + high32(w);
+    (column << 32) + low32(w)
+}
+
+// The product of two words.
+pub fn product(a: u64, b: u64) -> Wide
+    ensures { λ r. ⌜ value r ≡ a * b ⌝ }
+{
+    let high = high_word(a, b);
+    let low = low_word(a, b);
+    Wide { high, low }
 }
 
 // The whole part of a * b / 2^62.
@@ -111,6 +123,15 @@ pub fn square_shift62(a: u64) -> u64
 {
     let d = 2 * a;
     high_word(d, d)
+}
+
+// a * a / 2^62, rounded: the high word of the doubled factors, and the top bit of the low word, which is a half.
+pub fn square_round62(a: u64) -> u64
+    requires { ⌜ a ≤ 2 ^ 62 ⌝ }
+    ensures { λ r. ⌜ r ≡ (a * a + 2 ^ 61) / 2 ^ 62 ⌝ }
+{
+    let d = 2 * a;
+    high_word(d, d) + (low_word(d, d) >> 63)
 }
 
 // The whole part of a * b / 2^22: b for each 2^22 in a, and the high word for the 22 bits of a below.

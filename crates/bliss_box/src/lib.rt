@@ -23,7 +23,7 @@ use session::Session;
 pub extern "C" fn bliss_version() -> u32
     ensures { λ r. ⌜ r ≡ version ⌝ }
 {
-    800
+    900
 }
 
 // Opens a session of degree n.

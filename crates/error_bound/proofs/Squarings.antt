@@ -1,22 +1,21 @@
 -- How far six squarings carry a value that is near a fraction from the fraction's 64th power. Assumes nothing.
 use mathlib.Core.Path.{_≡_, _∙_}
-use Prim.Native.Nat.{ℕ, zero, suc, _+_, _*_, _/_, _^_, _≤_}
-use native.Mathlib.Nat.{le-trans, mul-le-mul, pow-zero, pow-suc, mul-div-le}
+use Prim.Native.Nat.{ℕ, zero, suc, _+_, _*_, _^_}
+use native.Mathlib.Nat.{le-trans, mul-le-mul, pow-zero, pow-suc}
 use native.Mathlib.Omega.{arith}
 use lib.Pow.{pow-pos, pow-add}
 use Rattle.exponential.specs.Exponential.{squared, squarings}
-use Rattle.exponential.proofs.Table.{product-small}
+use Rattle.exponential.proofs.Table.{squared-nearest, squared-small}
 use Rattle.error_bound.proofs.ErrorStep.{square}
-use Rattle.error_bound.proofs.Near.{Near, quotient-high}
+use Rattle.error_bound.proofs.Near.{Near}
 
 near-square : (E a S D : ℕ) → Near E a S D → Near (2 * E + 1) (squared a) (S * S) (D * D)
-unfolding squared
 near-square E a S D c =
-    let low : 2 ^ 62 * (a * a / 2 ^ 62) ≤ a * a + 2 ^ 62 = omega (arith, mul-div-le (a * a) (2 ^ 62)) in
-    let both = square (2 ^ 62) D S a (a * a / 2 ^ 62) E (pow-pos 62) (c .whole) (c .proper)
-    low (quotient-high (a * a)) (c .above) (c .below) in
+    let nearest = squared-nearest a in
+    let both = square (2 ^ 62) D S a (squared a) E (pow-pos 62) (c .whole) (c .proper)
+    (omega (arith, nearest .above)) (omega (arith, nearest .below)) (c .above) (c .below) in
     record {
-      whole = le-trans (product-small a a (c .whole)) (c .whole);
+      whole = le-trans (squared-small a (c .whole)) (c .whole);
       proper = mul-le-mul (c .proper) (c .proper);
       above = both .0;
       below = both .1;

@@ -1,5 +1,5 @@
 -- e(N) by the numbers of document 01, and by N alone. Assumes nothing.
-use mathlib.Core.Path.{_≡_, refl, ap, _∙_}
+use mathlib.Core.Path.{_≡_, refl, sym, ap, _∙_}
 use mathlib.Core.Bool.{cond}
 use Prim.Native.Nat.{ℕ, zero, suc, _+_, _-_, _*_, _/_, _^_, _≤_, _<_}
 use native.Mathlib.Omega.{arith}
@@ -21,13 +21,13 @@ module _ (q n : ℕ) where
   -- the numbers a
   unfoldable numbers : ℕ → ℕ
   numbers zero = polynomialEntry 20
-  numbers (suc i) = cond (ltb i 20) (polynomialEntry (19 - i) - numbers i * vOf / 2 ^ 62) (numbers i * numbers i / 2 ^ 62)
+  numbers (suc i) = cond (ltb i 20) (polynomialEntry (19 - i) - numbers i * vOf / 2 ^ 62) ((numbers i * numbers i + 2 ^ 61) / 2 ^ 62)
 
   evaluated-next : (i : ℕ) → i < 20 → numbers (suc i) ≡ polynomialEntry (19 - i) - numbers i * vOf / 2 ^ 62
   unfolding numbers
   evaluated-next i h = rw (lt-ltb i 20 h)
 
-  squared-next : (i : ℕ) → 20 ≤ i → numbers (suc i) ≡ numbers i * numbers i / 2 ^ 62
+  squared-next : (i : ℕ) → 20 ≤ i → numbers (suc i) ≡ (numbers i * numbers i + 2 ^ 61) / 2 ^ 62
   unfolding numbers
   squared-next i h = rw (le-ltb i 20 h)
 
@@ -38,7 +38,8 @@ module _ (q n : ℕ) where
   evaluated-on (suc j) i h =
       let same : j ≡ 19 - i = omega arith in
       let entry : getD polynomial j 0 ≡ polynomialEntry (19 - i) = table-at j (omega arith) ∙ ap polynomialEntry same in
-      rw (entry, ← evaluated-next i (omega arith)) (evaluated-on j (suc i) (omega arith))
+      let step : getD polynomial j 0 - numbers i * vOf / 2 ^ 62 ≡ numbers (suc i) = rw entry (sym (evaluated-next i (omega arith))) in
+      ap (evaluate polynomial vOf j) step ∙ evaluated-on j (suc i) (omega arith)
 
   squared-on : (count i : ℕ) → 20 ≤ i → count + i ≡ 26 → squarings count (numbers i) ≡ numbers 26
   unfolding squarings squared

@@ -1,4 +1,4 @@
--- The polynomial table, the factorials, the constants of deviation 215, and e(0). Assumes nothing.
+-- The polynomial table, the factorials, a squaring, the constants of deviation 215, and e(0). Assumes nothing.
 use mathlib.Core.Path.{_≡_, refl, sym, ap, _∙_}
 use mathlib.Core.Bool.{Bool, true, false, _&&_}
 use mathlib.Core.List.{List, [], _∷_}
@@ -12,6 +12,7 @@ use lib.Dec.{eqb}
 use lib.ListN.{getD}
 use Rattle.exponential.specs.Exponential.{factorial, polynomialEntry, entriesFrom, polynomial, sameWords, isPolynomial}
 use Rattle.exponential.specs.Exponential.{reciprocal, scaled, evaluate, squared, squarings, expScaled, expWith, divisorAt, divisor}
+use Rattle.exponential.specs.Exponential.{SquaredNearest}
 
 -- ** Factorials
 
@@ -49,6 +50,16 @@ product-small a v h = le-of-mul-le-mul-right {k = 2 ^ 62} (le-trans (div-mul-le-
 
 pub small-entry : (j a : ℕ) → a * factorial (suc j) ≤ 2 ^ 62 → a ≤ polynomialEntry j
 small-entry j a h = le-div-iff-mul-le (factorial-pos j) .1 (le-trans (mul-le-mul-left a (factorial-le j)) h)
+
+-- ** A squaring
+
+pub squared-nearest : SquaredNearest
+unfolding squared
+squared-nearest a = record { above = omega arith; below = omega arith }
+
+-- what is at most 1 does not grow
+pub squared-small : (a : ℕ) → a ≤ 2 ^ 62 → squared a ≤ a
+squared-small a h = omega (arith, squared-nearest a .above, mul-le-mul-left a h)
 
 -- ** Lists of words that are the same
 

@@ -1,4 +1,4 @@
--- The exponential e(N) of document 01, in units of 2 ^ -62. Assumes nothing.
+-- The exponential e(N) of document 01, its squarings rounded by S-7, in units of 2 ^ -62. Assumes nothing.
 use mathlib.Core.Path.{_≡_}
 use mathlib.Core.Bool.{Bool, true, false, cond, _&&_}
 use mathlib.Core.List.{List, [], _∷_}
@@ -50,9 +50,9 @@ unfoldable pub evaluate : (table : List ℕ) (v j a : ℕ) → ℕ
 evaluate table v zero a = a
 evaluate table v (suc j) a = evaluate table v j (getD table j 0 - a * v / 2 ^ 62)
 
--- one squaring
+-- one squaring, rounded
 unfoldable pub squared : ℕ → ℕ
-squared a = a * a / 2 ^ 62
+squared a = (a * a + 2 ^ 61) / 2 ^ 62
 
 -- a after count squarings
 unfoldable pub squarings : (count a : ℕ) → ℕ
@@ -95,13 +95,21 @@ expOrRefusal n = cond (leb n limit) (exp n) (2 ^ 63 + 12)
 
 -- ** What follows
 
+-- a squaring leans no way: it is within half a unit of the square, above or below
+pub record Nearest (square rounded : ℕ) : Type 0 where
+  pub above : 2 ^ 62 * rounded ≤ square + 2 ^ 61
+  pub below : square < 2 ^ 62 * rounded + 2 ^ 61
+
+abbrev pub SquaredNearest : Type 0
+SquaredNearest = (a : ℕ) → Nearest (a * a) (squared a)
+
 -- the numbers a of document 01, one after the other, for the divisor q: entry 20, then one for each entry from 19 down to 0, then one for
--- each of six squarings; the last is e
+-- each of six squarings, rounded; the last is e
 pub record InTurn (q n e : ℕ) : Type 0 where
   pub a : ℕ → ℕ
   pub start : a 0 ≡ 2 ^ 62 / factorial 20
   pub evaluated : (i : ℕ) → i < 20 → a (suc i) ≡ 2 ^ 62 / factorial (19 - i) - a i * (n * (2 ^ 84 / q) / 2 ^ 22) / 2 ^ 62
-  pub squared-next : (i : ℕ) → 20 ≤ i → i < 26 → a (suc i) ≡ a i * a i / 2 ^ 62
+  pub squared-next : (i : ℕ) → 20 ≤ i → i < 26 → a (suc i) ≡ (a i * a i + 2 ^ 61) / 2 ^ 62
   pub last : e ≡ a 26
 
 -- so is e(N), at the divisor 5,916,800

@@ -1,4 +1,4 @@
-// The exponential of document 01, in units of 2^-62.
+// The exponential of document 01, its squarings rounded by S-7, in units of 2^-62.
 ghost use mathlib.Core.Path.{_≡_};
 ghost use Prim.Native.Nat.{_+_, _-_, _*_, _/_, _^_, _≤_, _<_};
 ghost use lib.ListN.{length, getD};
@@ -109,12 +109,12 @@ fn evaluate_unlisted(table: &[u64], v: u64) -> u64
     a
 }
 
-// One squaring.
+// One squaring, rounded.
 fn square(a: u64) -> u64
     requires { ⌜ a ≤ 2 ^ 62 ⌝ }
     ensures { λ r. ⌜ (r ≡ squared a) × (r ≤ 2 ^ 62) ⌝ }
 {
-    arithmetic::square_shift62(a)
+    arithmetic::square_round62(a)
 }
 
 // The 64th power, by six squarings.

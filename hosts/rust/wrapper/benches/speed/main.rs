@@ -35,8 +35,8 @@ const KEY_CHECKS: [(usize, usize); 2] = [(512, 23), (1024, 64)];
 /// The degree that the targets are for: BLISS-I's.
 const TARGET_DEGREE: usize = 512;
 
-const EXPONENTIAL_TARGET: f64 = 0.65;
-const DRAW_TARGET: f64 = 0.85;
+const EXPONENTIAL_TARGET: f64 = 0.70;
+const DRAW_TARGET: f64 = 0.80;
 const RESPOND_TARGET: f64 = 1.0;
 const KEY_CHECK_TARGET: f64 = 1.1;
 const RECORD_TARGET: f64 = 1.2;

@@ -18,7 +18,7 @@ const RECIPROCAL: u64 = ((1u128 << 84) / 5_916_800) as u64;
 pub fn exponential<P: Product>(n: u64, polynomial: &[u64; 21]) -> u64 {
     let v = P::over_2_22(n, RECIPROCAL);
     let value = polynomial[..20].iter().rev().fold(polynomial[20], |a, entry| entry - P::over_2_62(a, v));
-    (0..6).fold(value, |a, _| P::square_over_2_62(a))
+    (0..6).fold(value, |a, _| P::rounded_square_over_2_62(a))
 }
 
 /// The exponential by n alone: e(n), or 2^63 and the refusal's number.

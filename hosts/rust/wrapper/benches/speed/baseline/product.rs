@@ -1,4 +1,4 @@
-//! The products of document 01 in two forms.
+//! The products of document 01, and the rounded squares of request S-7, in two forms.
 
 /// Whole parts of products over powers of two.
 pub trait Product {
@@ -8,6 +8,9 @@ pub trait Product {
     /// The whole part of a * a / 2^62, for a at most 2^62.
     fn square_over_2_62(a: u64) -> u64;
 
+    /// The whole part of (a * a + 2^61) / 2^62, for a at most 2^62.
+    fn rounded_square_over_2_62(a: u64) -> u64;
+
     /// The whole part of n * r / 2^22, for n below 2^23 and r below 2^63.
     fn over_2_22(n: u64, r: u64) -> u64;
 }
@@ -15,7 +18,8 @@ pub trait Product {
 /// The product has 128 bits and is shifted.
 pub struct Shifted;
 
-/// The factors are scaled, so that the high word of the product is the whole part and nothing is left to shift.
+/// The factors are scaled, so that the high word of the product is the whole part and nothing is left to shift; the low word's top bit is
+/// the half that rounds a square.
 pub struct HighWord;
 
 fn wide(a: u64, b: u64) -> u128 {
@@ -35,6 +39,10 @@ impl Product for Shifted {
         (wide(a, a) >> 62) as u64
     }
 
+    fn rounded_square_over_2_62(a: u64) -> u64 {
+        ((wide(a, a) + (1 << 61)) >> 62) as u64
+    }
+
     fn over_2_22(n: u64, r: u64) -> u64 {
         (wide(n, r) >> 22) as u64
     }
@@ -47,6 +55,11 @@ impl Product for HighWord {
 
     fn square_over_2_62(a: u64) -> u64 {
         high_word(2 * a, 2 * a)
+    }
+
+    fn rounded_square_over_2_62(a: u64) -> u64 {
+        let product = wide(2 * a, 2 * a);
+        (product >> 64) as u64 + (product as u64 >> 63)
     }
 
     fn over_2_22(n: u64, r: u64) -> u64 {
