@@ -1,4 +1,4 @@
-"""Writes the points of draws, worked out from document 01 with request S-6, and independently of the library.
+"""Writes the points of draws, worked out from document 01 with requests S-6 and S-7, and independently of the library.
 
 points.py stdin prints rows of 23 columns of 16 hexadecimal digits: a CDT table, a polynomial table, then the draws over them, whose number
 is the last column of the CDT table's row. points.py stdout prints the outcome of each draw: the refusal of the opening, the answer
@@ -174,6 +174,10 @@ def points():
     for first, third, n in ((0, 1, 1), (2**40, 1, 513), (ONE - 1, 255, 1370625)):
         yield known(first, 0, third, e(n) - 1)
         yield known(first, 0, third, e(n))
+    # Word 3 at e(N) by document 01 alone, whose squarings cut and give less: it is accepted.
+    for first, third, n in ((0, 1, 1), (2**40, 1, 513)):
+        assert e(n, 0) < e(n)
+        yield known(first, 0, third, e(n, 0))
 
     # Attempts 1, 4 and 7 are rejected by word 3, so that eleven are needed. b = 1, and x is the number of the attempt.
     for limit in (8, 10, 11, 12):
@@ -194,13 +198,14 @@ def points():
     yield row(origin=BEFORE)
 
 
-def e(n):
+def e(n, added=2**61):
+    """e(n) where each squaring adds this before its cut, as request S-7 has it."""
     v = n * (2**84 // DIVISOR) // 2**22
     a = POLYNOMIAL[20]
     for j in range(19, -1, -1):
         a = POLYNOMIAL[j] - a * v // ONE
     for _ in range(6):
-        a = a * a // ONE
+        a = (a * a + added) // ONE
     return a
 
 

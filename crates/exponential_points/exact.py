@@ -1,7 +1,7 @@
-"""The exponential of document 01 in exact arithmetic, worked out from the document and independently of the library.
+"""The exponential of document 01 with request S-7 in exact arithmetic, worked out from both and independently of the library.
 
 The program prints n and e(n), a pair to a line. Each e(n) is also compared with the exact fraction that it stands for, the 64th
-power of the sum over j = 0..20 of (-n / 5916800)^j / j!: a distance of more than 1024 units of 2^-62 ends the program with an
+power of the sum over j = 0..20 of (-n / 5916800)^j / j!: a distance of more than 960 units of 2^-62 ends the program with an
 error. The largest distance on either side is reported on standard error.
 """
 from math import factorial
@@ -11,7 +11,7 @@ ONE = 2**62
 DIVISOR = 64 * 2 * 215**2
 LIMIT = 5534960
 REFUSED = 2**63 + 12
-BOUND = 1024
+BOUND = 960
 TABLE = [ONE // factorial(j) for j in range(21)]
 R = 2**84 // DIVISOR
 
@@ -29,7 +29,7 @@ def e(n):
     for j in range(19, -1, -1):
         a = TABLE[j] - a * v // ONE
     for _ in range(6):
-        a = a * a // ONE
+        a = (a * a + 2**61) // ONE
     return a
 
 
@@ -51,7 +51,7 @@ def in_tenths(over):
 
 
 def main():
-    named = [0, 1, 450, 513, 1028, 46225, 92450, 1370625, LIMIT, LIMIT + 1, 2**63, 2**64 - 1]
+    named = [0, 1, 513, 1552, 6120, 46225, 92450, 1370625, LIMIT, LIMIT + 1, 2**63, 2**64 - 1]
     points = named + list(range(9973, LIMIT, 9973))
     for n in points:
         print(n, e(n))

@@ -1,4 +1,4 @@
-// Prints n and the exponential by n alone, a pair to a line: at n that document 01 names, at 450 and 1028, where e(n) is farthest above
+// Prints n and the exponential by n alone, a pair to a line: at n that document 01 names, at 6120 and 1552, where e(n) is farthest above
 // and below the exact fraction, where n is refused, and at a spread of n.
 // The file stdout beside src/ is written by exact.py, another program.
 use libc::STDOUT_FILENO;
@@ -6,9 +6,9 @@ use libc::STDOUT_FILENO;
 const NAMED: [u64; 12] = [
     0,
     1,
-    450,
     513,
-    1028,
+    1552,
+    6120,
     46225,
     92450,
     1370625,

@@ -1,6 +1,7 @@
 pub mod Computing
 pub mod KnownPoints
 pub mod ExponentialNumbers
+pub mod RoundingNumbers
 pub mod SampleNumbers
 pub mod RespondNumbers
 pub mod CoefficientNumbers

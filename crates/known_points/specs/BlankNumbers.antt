@@ -83,8 +83,8 @@ pub record BlankNumbers : Type 0 where
   pub how-many-entries : length (blankReads 1) ≡ 47
   pub blank-list : respondEntries 4 true [] ≡ blankReads 1
   -- word 1 decides at e(46,225), whatever the key is; the largest word 2 passes too, of 62 bits
-  pub word-1-below : blankAt 4 (three 0 2797128963144291333 4611686018427387903) (pos 7) noise ≡ accepted noise
-  pub word-1-at : blankAt 4 (three 0 2797128963144291334 0) (pos 7) noise ≡ rejected
+  pub word-1-below : blankAt 4 (three 0 2797128963144291368 4611686018427387903) (pos 7) noise ≡ accepted noise
+  pub word-1-at : blankAt 4 (three 0 2797128963144291369 0) (pos 7) noise ≡ rejected
   -- so does Z: 64 * 1,609 ^ 2 is its limit
   pub largest-z : blankAt 32 (three 0 0 0) (pos 0) (replicate 64 (pos 1609)) .responded .answer .bit ≡ true
   pub larger-z : blankAt 32 (three 0 0 0) (pos 0) (pos 1610 ∷ replicate 63 (pos 1609)) .responded .answer .bit ≡ false

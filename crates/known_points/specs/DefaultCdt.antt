@@ -26,12 +26,12 @@ drawsOf x = threshold cdt215 x - threshold cdt215 (x - 1)
 abbrev pub drawsOf0 : ℕ
 drawsOf0 = threshold cdt215 0
 
--- whether base sample x comes exp(-65536 * x ^ 2 / 92450) times as often as base sample 0, by e: but for 1,024 units, its bound, and one
+-- whether base sample x comes exp(-65536 * x ^ 2 / 92450) times as often as base sample 0, by e: but for 960 units, its bound, and one
 -- more for the rounding of thresholds
 unfoldable pub byItsWeight : (x : ℕ) → Bool
 byItsWeight x =
-    leb (drawsOf x * 2 ^ 62) (drawsOf0 * (exp (65536 * x ^ 2) + 1025))
-    && leb (drawsOf0 * exp (65536 * x ^ 2)) (drawsOf x * 2 ^ 62 + drawsOf0 * 1025)
+    leb (drawsOf x * 2 ^ 62) (drawsOf0 * (exp (65536 * x ^ 2) + 961))
+    && leb (drawsOf0 * exp (65536 * x ^ 2)) (drawsOf x * 2 ^ 62 + drawsOf0 * 961)
 
 pub record DefaultCdt : Type 0 where
   -- refusal 3 lets it through
@@ -39,4 +39,4 @@ pub record DefaultCdt : Type 0 where
   -- base samples 1 to 9 come as often as they should
   pub weights : allBelow (λ (i : ℕ). byItsWeight (suc i)) 9 ≡ true
   -- and base sample 10, whose weight is too small for e, by as few draws as that allows
-  pub last-weight : leb ((2 ^ 124 - threshold cdt215 9) * 2 ^ 62) (drawsOf0 * 1025) ≡ true
+  pub last-weight : leb ((2 ^ 124 - threshold cdt215 9) * 2 ^ 62) (drawsOf0 * 961) ≡ true

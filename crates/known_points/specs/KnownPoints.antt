@@ -108,20 +108,17 @@ pub record KnownPoints : Type 0 where
   pub reciprocal-is : reciprocal divisor ≡ 3269134179596076729
   pub attempt-limit : attemptLimit ≡ exponent 10 255
   pub limit-by-norms : limit ≡ 2 * 215 * 12872
-  pub exp-513 : exp 513 ≡ 4586166892218597776
-  pub exp-46225 : exp 46225 ≡ 2797128963144291334
-  pub exp-92450 : exp 92450 ≡ 1696544475317221329
   pub exp-1370625 : exp 1370625 ≡ 1679544596975
   -- the last N whose e(N) is not 0, and the first whose is
-  pub exp-1 : exp 3973050 ≡ 1
-  pub exp-none : exp 3973051 ≡ 0
+  pub exp-last : exp 4037131 ≡ 1
+  pub exp-none : exp 4037132 ≡ 0
   -- by N alone: the largest N is served
   pub alone-last : expOrRefusal 5534960 ≡ 0
   --
   -- ** Our own: attempt
   -- word 3 = e(N) - 1 is accepted and e(N) is not, whatever its top two bits are: x = 1, b = 1; x = 10, b = 255, sign 1
-  pub word-3-below : (top : ℕ) → bitAt e evenThresholds (four (2 ^ 40) 0 1 (top * 2 ^ 62 + 4586166892218597775)) 0 ≡ true
-  pub word-3-at : (top : ℕ) → bitAt e evenThresholds (four (2 ^ 40) 0 1 (top * 2 ^ 62 + 4586166892218597776)) 0 ≡ false
+  pub word-3-below : (top : ℕ) → bitAt e evenThresholds (four (2 ^ 40) 0 1 (top * 2 ^ 62 + 4586166892218597801)) 0 ≡ true
+  pub word-3-at : (top : ℕ) → bitAt e evenThresholds (four (2 ^ 40) 0 1 (top * 2 ^ 62 + 4586166892218597802)) 0 ≡ false
   pub word-3-below-largest : (top : ℕ) → bitAt e evenThresholds (four (10 * 2 ^ 40) 0 511 (top * 2 ^ 62 + 1679544596974)) 0 ≡ true
   pub word-3-at-largest : (top : ℕ) → bitAt e evenThresholds (four (10 * 2 ^ 40) 0 511 (top * 2 ^ 62 + 1679544596975)) 0 ≡ false
   -- bits 9 to 63 of word 2 do not count
@@ -164,20 +161,20 @@ pub record KnownPoints : Type 0 where
   pub larger-z : (n : ℕ) (y sc : List ℤ) (words : List ℕ) → 165688384 < squareSum (responseZ y sc words)
       → responseBit e n y sc words ≡ false
   -- word 1 = e(N1) - 1 passes and e(N1) does not, whatever its top two bits are: A = 0, N1 = 46,225; I = 0
-  pub word-1-below : (top word₂ : ℕ) → bitOver (pos 5) (pos 0) (three 0 (top * 2 ^ 62 + 2797128963144291333) word₂) ≡ true
-  pub word-1-at : (top word₂ : ℕ) → bitOver (pos 5) (pos 0) (three 0 (top * 2 ^ 62 + 2797128963144291334) word₂) ≡ false
+  pub word-1-below : (top word₂ : ℕ) → bitOver (pos 5) (pos 0) (three 0 (top * 2 ^ 62 + 2797128963144291368) word₂) ≡ true
+  pub word-1-at : (top word₂ : ℕ) → bitOver (pos 5) (pos 0) (three 0 (top * 2 ^ 62 + 2797128963144291369) word₂) ≡ false
   -- the largest word 2 that passes, and the next: A = 46,225, and I is 46,225 where g is 0, -46,225 where it is 1; N2 = 92,450
-  pub word-2-below : (top word₁ : ℕ) → bitOver (pos 0) (pos 215) (three 0 word₁ (top * 2 ^ 62 + 2988622833037856500)) ≡ true
-  pub word-2-above : (top word₁ : ℕ) → bitOver (pos 0) (pos 215) (three 0 word₁ (top * 2 ^ 62 + 2988622833037856501)) ≡ false
-  pub word-2-below-minus : (top word₁ : ℕ) → bitOver (pos 0) (pos 215) (three 1 word₁ (top * 2 ^ 62 + 2988622833037856500)) ≡ true
+  pub word-2-below : (top word₁ : ℕ) → bitOver (pos 0) (pos 215) (three 0 word₁ (top * 2 ^ 62 + 2988622833037856521)) ≡ true
+  pub word-2-above : (top word₁ : ℕ) → bitOver (pos 0) (pos 215) (three 0 word₁ (top * 2 ^ 62 + 2988622833037856522)) ≡ false
+  pub word-2-below-minus : (top word₁ : ℕ) → bitOver (pos 0) (pos 215) (three 1 word₁ (top * 2 ^ 62 + 2988622833037856521)) ≡ true
   pub word-2-above-minus : (top word₁ : ℕ)
-      → bitOver (pos 0) (pos 215) (three 1 word₁ (top * 2 ^ 62 + 2988622833037856501)) ≡ false
+      → bitOver (pos 0) (pos 215) (three 1 word₁ (top * 2 ^ 62 + 2988622833037856522)) ≡ false
   -- the cosh test at its edge: both sides have the same high word, and their low words decide
-  pub cosh-low-below : coshPasses (e 92450) 2988622833037856500 ≡ true
-  pub cosh-low-above : coshPasses (e 92450) 2988622833037856501 ≡ false
+  pub cosh-low-below : coshPasses (e 92450) 2988622833037856521 ≡ true
+  pub cosh-low-above : coshPasses (e 92450) 2988622833037856522 ≡ false
   -- their high words decide
-  pub cosh-high-below : coshPasses (e 46225) 4089730248082169845 ≡ true
-  pub cosh-high-above : coshPasses (e 46225) 4089730248082169846 ≡ false
+  pub cosh-high-below : coshPasses (e 6120) 4601599844394352459 ≡ true
+  pub cosh-high-above : coshPasses (e 6120) 4601599844394352460 ≡ false
   -- e = 1: at word 2 = 2 both sides are equal
-  pub cosh-below-equal : coshPasses (e 3973050) 1 ≡ true
-  pub cosh-equal : coshPasses (e 3973050) 2 ≡ false
+  pub cosh-below-equal : coshPasses (e 4037131) 1 ≡ true
+  pub cosh-equal : coshPasses (e 4037131) 2 ≡ false
