@@ -3,8 +3,8 @@
 //! So is every key check, and what it promises of a key that passes is looked for in respond calls; and every record that is
 //! written or read, where what is written is read again, and what is taken for a record is written again. Draws by tables of
 //! document 01's order, reordered, are compared with what the model gives in that order.
-//! The last line says how many calls were compared. A run of the default length, or a longer one, fails where it misses a case, or
-//! compares less than the documents say.
+//! The last line says how many calls were compared. A run of the default length, or a longer one, compares e(N) for every N, and
+//! fails where it misses a case, or compares less than the documents say.
 //!
 //! `BLISS_CALLS` is the number of single draws to compare, and of single respond calls; the other parts of a run grow with it.
 //! `BLISS_SEED` is the seed of the first one of each, and each one after it has the next. A failure names the seed: with it and
@@ -15,6 +15,7 @@ mod archive;
 mod calls;
 mod comparison;
 mod coverage;
+mod cut_exponential;
 mod demand3;
 mod draws;
 mod key_checks;
@@ -32,6 +33,7 @@ use std::process::ExitCode;
 use std::thread;
 
 use comparison::Comparison;
+use cut_exponential::cut_exponential;
 use random::Random;
 use run::DEFAULT_SEED;
 
@@ -151,16 +153,41 @@ fn filled_parts_are_the_models(comparison: &Comparison) {
     }
 }
 
+/// N, the cut e(N) and e(N), as exact arithmetic has them: the last four where the cut e(N) comes to 0, and where e(N) does.
+const KNOWN_EXPONENTIALS: [(u64, u64, u64); 10] = [
+    (0, 4611686018427387904, 4611686018427387904),
+    (1, 4611636135668307357, 4611636135668307368),
+    (513, 4586166892218597776, 4586166892218597802),
+    (46_225, 2797128963144291334, 2797128963144291369),
+    (92_450, 1696544475317221329, 1696544475317221345),
+    (1_370_625, 1679544596975, 1679544596975),
+    (3_973_050, 1, 1),
+    (3_973_051, 0, 1),
+    (4_037_131, 0, 1),
+    (4_037_132, 0, 0),
+];
+
+/// N where the last squaring leaves less than a half, and more than a half, by the least that it does.
+const NEAREST_TO_HALF: [u64; 2] = [1_745_416, 2_443_483];
+
+/// Every N in a whole run. A shorter one leaves out most, but none of those that an attempt or N1 has, and none near the limit, or
+/// near where e(N) or the cut e(N) comes to 0.
 fn exponentials_are_the_models(comparison: &Comparison) {
     let limit = 5_534_960;
-    let mut random = Random::new(DEFAULT_SEED);
-    for n in (0..1000).chain(limit - 1000..limit + 1000).chain((0..64).map(|shift| 1 << shift)).chain([u64::MAX]) {
+    let attempts = (0..=10).flat_map(|x| (0..256).map(move |b| b * (b + 512 * x)));
+    let edges = [3_973_051, 4_037_132, limit].into_iter().flat_map(|n| n - 1000..n + 1000);
+    let step = if run::is_whole() { 1 } else { 271 };
+    for n in (0..=46_225).chain(attempts).chain(edges).chain(NEAREST_TO_HALF).chain((0..=limit).step_by(step)) {
         comparison.exponential(n);
     }
-    for _ in 0..20_000 {
-        comparison.exponential(random.word() % (limit + 1));
+    for n in (0..64).map(|shift| 1 << shift).chain([u64::MAX]) {
+        comparison.exponential(n);
     }
+    let mut random = Random::new(DEFAULT_SEED);
     for _ in 0..2_000 {
         comparison.exponential(random.word() >> random.below(64));
+    }
+    for (n, cut_e, e) in KNOWN_EXPONENTIALS {
+        assert_eq!((cut_exponential(n), model::exponential(n)), (cut_e, e), "the cut e({n}) and e({n})");
     }
 }

@@ -72,6 +72,21 @@ wrong_by_values() {
     differences | grep -qvxE 'the entries|the list' || fail "$1: nothing but the read list shows it"
 }
 
+# wrong_e NAME RIGHT WRONG: one that must be noticed in e(N) by N alone, in draws and in responses.
+wrong_e() {
+    wrong "$@"
+    for noticing in exponentials draws responses; do
+        grep -q "^thread '$noticing' .*panicked" "$scratch/log" || fail "$1: the $noticing do not show it"
+    done
+}
+
+# wrong_turns NAME ROUNDED: one whose squarings are cut but for those that are rounded, by their turn from 0.
+wrong_turns() {
+    wrong_e "$1" 'for _ in 0..6 {
+        a = (a * a + (1 << 61)) / ONE;' "for turn in 0..6 {
+        a = (a * a + if $2 { 1 << 61 } else { 0 }) / ONE;"
+}
+
 # wrong_by_padding REFUSAL CALL: two that serve a draw, or a respond call, whose words or list are one short. REFUSAL and CALL are
 # the model's functions for it, up to the call that they take.
 wrong_by_padding() {
@@ -115,6 +130,9 @@ wrong_z1() {
     wrong "$1" 'let bit = response.bit();' \
         "let bit = response.tests()[..4] == [true; 4] && (0..n).all(|i| $2.abs() <= COEFFICIENT_LIMIT);"
 }
+
+# Document 01's e(N), which no model takes.
+cut_e=crate::cut_exponential::cut_exponential
 
 # Whether a respond call is one for a blank response.
 blank='call.challenge.is_empty()'
@@ -210,6 +228,7 @@ wrong 'N with 256x' 'b * (b + 512 * x)' 'b * (b + 256 * x)'
 wrong 'zero is rejected with both signs' '!(self.size() == 0 && self.negative)' 'self.size() != 0'
 wrong 'x = 0 with sign 1 is rejected' '!(self.size() == 0 && self.negative)' '!(self.x == 0 && self.negative)'
 wrong 'accepted at e(N) too' 'self.tested < self.e' 'self.tested <= self.e'
+wrong_by_values 'accepted by the cut e(N)' 'exponential(n))' "$cut_e(n))"
 wrong 'samples without a sign' '-(self.size() as i32)' 'self.size() as i32'
 
 # Draw
@@ -323,6 +342,7 @@ wrong 'I of y' 'inner_product(&z, product)' \
 wrong 'I below 0 counts as 0' '2 * inner.unsigned_abs()' '2 * inner.max(0).unsigned_abs()'
 wrong 'word 1 passes at e(N1) too' 'self.tested1 < self.e1' 'self.tested1 <= self.e1'
 wrong 'word 1 fails at e(N1) - 1' 'self.tested1 < self.e1' 'self.tested1 + 1 < self.e1'
+wrong 'word 1 is tested by the cut e(N1)' 'exponential(n1)' "$cut_e(n1)"
 wrong 'word 1 is not tested' 'self.tested1 < self.e1' 'true'
 wrong 'words 1 and 2 change places' '(of_62(words[1]), of_62(words[2]))' '(of_62(words[2]), of_62(words[1]))'
 wrong 'word 2 without its lowest bits' 'of_62(words[2])' 'u128::from(words[2] / 4)'
@@ -334,6 +354,9 @@ wrong 'the cosh test on high words alone' 'self.tested2 * (ONE + self.f) < self.
     '(self.tested2 * (ONE + self.f)) >> 64 < (self.e2 * (1 << 63)) >> 64'
 wrong 'the cosh test passes at equal high words' 'self.tested2 * (ONE + self.f) < self.e2 * (1 << 63)' \
     '(self.tested2 * (ONE + self.f)) >> 64 <= (self.e2 * (1 << 63)) >> 64'
+wrong 'f is rounded' 'e2 * e2 / ONE' '(e2 * e2 + (1 << 61)) / ONE'
+wrong 'f of the cut e(N2)' 'e2 * e2 / ONE' "u128::from($cut_e(n2)).pow(2) / ONE"
+wrong 'the cosh test by the cut e(N2)' 'exponential(n2)' "$cut_e(n2)"
 wrong 'no cosh test' 'self.tested2 * (ONE + self.f) < self.e2 * (1 << 63)' 'true'
 wrong 'every response is rejected' 'self.tests() == [true; 5]' 'false'
 wrong 'four tests of five are enough' 'self.tests() == [true; 5]' 'self.tests().iter().filter(|&&test| test).count() >= 4'
@@ -393,6 +416,7 @@ wrong_blank 'blank, every response is rejected' 'bit = false;'
 wrong_blank 'blank, word 1 alone is tested' 'bit = response.tests()[2];'
 wrong_blank 'blank, Z is not tested' 'response.response_squares = 0; bit = response.bit();'
 wrong_blank 'blank, N1 = 0, by which every word 1 passes' 'response.e1 = ONE; bit = response.bit();'
+wrong_blank 'blank, word 1 is tested by the cut e(46,225)' "response.e1 = $cut_e(46_225).into(); bit = response.bit();"
 wrong_blank 'blank, z1 is not tested' 'bit = response.tests()[..4] == [true; 4];'
 wrong_blank 'blank, z2 is tested too' 'bit &= response.z.iter().all(|z| z.abs() <= COEFFICIENT_LIMIT);'
 wrong_blank 'blank, word 2 is tested by e(46,225)' 'bit &= response.tested2 < response.e1;'
@@ -497,8 +521,35 @@ wrong 'degree 1024 is refused' '512, 1024]' '512]'
 # Filled part and exponential
 wrong 'a count over the length gets the whole list' '&list[..0]' 'list'
 wrong 'a count of the length gets the empty part' 'count > list.len()' 'count >= list.len()'
-wrong 'five squarings' 'for _ in 0..6 {' 'for _ in 0..5 {'
+wrong_e 'five squarings' 'for _ in 0..6 {' 'for _ in 0..5 {'
 wrong 'the exponential refuses its limit' 'n > EXPONENTIAL_LIMIT' 'n >= EXPONENTIAL_LIMIT'
+
+# Document 02's rounded squarings. That a half is rounded down is no wrong model: it would be a square with 61 factors of two, and a
+# square has an even number of them.
+squaring='(a * a + (1 << 61)) / ONE'
+cut='a * a / ONE'
+wrong_e 'squarings are cut' "$squaring" "$cut"
+wrong_e '2^60 is added' "$squaring" '(a * a + (1 << 60)) / ONE'
+wrong_e '2^62 is added' "$squaring" '(a * a + (1 << 62)) / ONE'
+wrong 'less than 2^61 is added' "$squaring" '(a * a + (1 << 61) - (1 << 39)) / ONE'
+wrong 'more than 2^61 is added' "$squaring" '(a * a + (1 << 61) + (1 << 39)) / ONE'
+wrong_e '1 is added' "$squaring" '(a * a + 1) / ONE'
+wrong_e '1 is added after the whole part is taken' "$squaring" "$cut + 1"
+wrong_e '2^61 is added after the whole part is taken' "$squaring" "($cut + (1 << 61)) % ONE"
+wrong_e '2^61 is taken away' "$squaring" '(a * a).saturating_sub(1 << 61) / ONE'
+wrong_e 'squarings are rounded up' "$squaring" '(a * a).div_ceil(ONE)'
+wrong_e '2^61 is added to the low word, without its carry' "$squaring" \
+    '((a * a >> 64 << 64) + u128::from(((a * a) as u64).wrapping_add(1 << 61))) / ONE'
+wrong_turns 'the first squaring alone is rounded' 'turn == 0'
+wrong_turns 'the last squaring alone is rounded' 'turn == 5'
+wrong_turns 'the first squaring is cut' 'turn != 0'
+wrong_turns 'the last squaring is cut' 'turn != 5'
+wrong 'e(0) is below 2^62' "$squaring" "($squaring).min(ONE - 1)"
+wrong 'e(0) is above 2^62' "$squaring" '(a * a + if a == ONE { ONE } else { 1 << 61 }) / ONE'
+wrong 'e(N) is 0 where the cut e(N) is' 'let mut a = evaluated(n);' 'let mut a = if n < 3_973_051 { evaluated(n) } else { 0 };'
+wrong_e 'the evaluation is rounded' 'a * v / ONE' '(a * v + (1 << 61)) / ONE'
+wrong_e 'v is rounded' 'u128::from(n) * r / (1 << 22)' '(u128::from(n) * r + (1 << 21)) / (1 << 22)'
+wrong_e 'R is rounded' '(1 << 84) / 5_916_800' '((1 << 84) + 2_958_400) / 5_916_800'
 
 # Document 01's order of the CDT, and its reordering
 part=../old_order/mod.rs

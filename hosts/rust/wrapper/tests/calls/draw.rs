@@ -130,9 +130,10 @@ pub fn edge_words(random: &mut Random, thresholds: &[u128; 10], accepting: usize
     let high = top_bits(random, (d >> 62) as u64);
     let low = top_bits(random, (d % u128::from(BOUND)) as u64);
     let mut words = [high, low, sign_and_low + (over << 9), 0];
-    let e = Attempt::of(words, thresholds).e as u64;
+    let attempt = Attempt::of(words, thresholds);
+    let (e, cut_e) = (attempt.e as u64, attempt.cut_e() as u64);
     words[3] = if random.below(5) < accepting {
-        random.pick(&[0, e - 1, any % e])
+        random.pick(&[0, e - 1, cut_e.min(e - 1), any % e])
     } else {
         random.pick(&[e - 1, e, e, e + 1, BOUND - 1, any])
     };

@@ -161,8 +161,9 @@ fn tune(random: &mut Random, key: &mut [i32], challenge: &[u32], target: i128) {
     }
 }
 
-/// I at 0 and near it; and the greatest I whose e is not 0, and the next.
-const INNER_EDGES: [i64; 4] = [0, 1, 1_986_525, 1_986_526];
+/// I at 0 and near it; the first I whose cut e is 0, where e is 1; and the greatest I whose e is not 0, and the next. Those with
+/// an e of 1 stand twice: few keys allow them.
+const INNER_EDGES: [i64; 7] = [0, 1, 1_986_526, 1_986_526, 2_018_565, 2_018_565, 2_018_566];
 
 /// Z at its limit and above, and those that are at most the limit in 32 bits.
 const RESPONSE_EDGES: [u128; 4] = [RESPONSE_LIMIT, RESPONSE_LIMIT + 1, 1 << 32, (1 << 32) + RESPONSE_LIMIT];
@@ -174,8 +175,8 @@ fn y(random: &mut Random, product: &[i128], minus: bool) -> Vec<i32> {
     match random.below(15) {
         0 => vec![0; shifts.len()],
         1 | 2 => noise(random, shifts.len()),
-        3..=6 => great_y(random, &shifts),
-        7 | 8 => {
+        3..=5 => great_y(random, &shifts),
+        6..=8 => {
             let target = random.pick(&INNER_EDGES) * random.pick(&[1, -1]);
             y_of_inner(&shifts, target)
         }
@@ -274,19 +275,25 @@ fn words(random: &mut Random, y: &[i32], product: &[i128], minus: bool) -> [u64;
     let any = random.word();
     let first = random.pick(&[0, 0, any << 1, u64::MAX - 1]) + u64::from(minus);
     let response = Response::of(y, product, [first, 0, 0]);
-    let one = u128::from(BOUND);
-    // The first number that does not pass: 2^62 where all do.
-    let cosh_edge = (response.e2 << 63).div_ceil(one + response.f);
-    [first, edge_word(random, response.e1 as u64), edge_word(random, cosh_edge as u64)]
+    let cut = response.cut();
+    let word_1 = edge_word(random, response.e1 as u64, cut.e1 as u64);
+    let word_2 = edge_word(random, cosh_edge(&response), cosh_edge(&cut));
+    [first, word_1, word_2]
 }
 
-/// A word that is likely to be below an edge, near it or far.
-fn edge_word(random: &mut Random, edge: u64) -> u64 {
+/// The first number that does not pass the cosh test: 2^62 where all do.
+fn cosh_edge(response: &Response) -> u64 {
+    (response.e2 << 63).div_ceil(u128::from(BOUND) + response.f) as u64
+}
+
+/// A word that is likely to be below an edge, near it or far, or at the edge that the cut e(N) gave.
+fn edge_word(random: &mut Random, edge: u64, cut_edge: u64) -> u64 {
     let any = random.word();
+    let last = edge.saturating_sub(1);
     let word = if random.one_in(4) {
         random.pick(&[edge, edge, edge + 1, BOUND - 1, any])
     } else {
-        random.pick(&[0, edge.saturating_sub(1), any % edge.max(1)])
+        random.pick(&[0, last, cut_edge.min(last), any % edge.max(1)])
     };
     top_bits(random, word.min(BOUND - 1))
 }

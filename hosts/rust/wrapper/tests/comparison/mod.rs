@@ -98,7 +98,7 @@ impl Comparison {
     pub fn exponential(&self, n: u64) {
         // SAFETY: the call takes any number and no pointer.
         let given = unsafe { raw::bliss_exponential(n) };
-        same(&format!("exponential of {n}"), "the result", &[given], &[model::exponential(n)]);
+        same(&format_args!("exponential of {n}"), "the result", &[given], &[model::exponential(n)]);
         self.exponentials.fetch_add(1, Relaxed);
     }
 

@@ -3,6 +3,7 @@
 use super::respond::{ACCEPTED, BY_WORD_1, BY_Z, BY_Z1};
 use super::Coverage;
 use crate::calls::respond::{GREATEST_KEY, GREATEST_Y, GREATEST_Z1};
+use crate::cut_exponential::cut_exponential;
 use crate::model::exponential;
 use crate::model::respond::{Call, Response, RESPONSE_LIMIT};
 
@@ -38,6 +39,7 @@ impl Coverage {
         let e = u128::from(exponential(46_225));
         let mut see = |case: &str, met: bool| self.see_by_top_bits(case, call.words[1], met);
         see("accepted, word 1 = e(46,225) - 1", r.bit() && r.tested1 + 1 == e);
+        see("accepted, word 1 = the cut e(46,225)", r.bit() && r.tested1 == cut_exponential(46_225).into());
         see("rejected by word 1 = e(46,225) alone", r.tests() == BY_WORD_1 && r.tested1 == e);
     }
 

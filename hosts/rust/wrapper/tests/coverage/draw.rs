@@ -153,6 +153,12 @@ impl Coverage {
         for top in TOP_BITS {
             let count = |case: fn(&Attempt) -> bool| made.count(|a, words| words[3] >> 62 == top && case(a));
             self.count(format!("word 3 at e(N) - 1, top bits {top:02b}"), count(|a| a.tested + 1 == a.e && a.accepted()));
+            self.count(format!("word 3 at e(N) - 1, not below the cut e(N), top bits {top:02b}"), {
+                count(|a| a.tested + 1 == a.e && a.accepted() && a.tested >= a.cut_e())
+            });
+            self.count(format!("word 3 at the cut e(N) accepted, top bits {top:02b}"), {
+                count(|a| a.accepted() && a.tested == a.cut_e())
+            });
             self.count(format!("word 3 at e(N), top bits {top:02b}"), count(|a| a.tested == a.e));
             self.count(format!("word 3 at e(N) + 1, top bits {top:02b}"), count(|a| a.tested == a.e + 1));
             self.count(format!("word 3 at 0, top bits {top:02b}"), count(|a| a.tested == 0 && a.accepted()));

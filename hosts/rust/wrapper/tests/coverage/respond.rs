@@ -54,6 +54,7 @@ impl Coverage {
         self.count_accepted_coefficients(call, response);
         self.count_rejected_coefficients(call, response);
         self.count_edges_of_words(call, response);
+        self.count_rounding(call, response);
     }
 
     /// The challenge, the key and y at their ends.
@@ -101,10 +102,14 @@ impl Coverage {
         see("accepted, word 0 = 2^64 - 2", call.words[0] == u64::MAX - 1);
         see("accepted, word 0 = 2^64 - 1", call.words[0] == u64::MAX);
         see("accepted, I = 0", r.inner == 0);
+        see("accepted, I = 0, word 2 = 2^62 - 1", r.inner == 0 && r.tested2 + 1 == 1 << 62);
         see("accepted, I = 1", r.inner == 1);
         see("accepted, I = -1", r.inner == -1);
-        see("accepted, I = 1,986,525: the last e above 0", r.inner == 1_986_525);
-        see("accepted, I = -1,986,525: the last e above 0", r.inner == -1_986_525);
+        see("accepted, I = 1,986,526: the first cut e at 0", r.inner == 1_986_526);
+        see("accepted, I = -1,986,526: the first cut e at 0", r.inner == -1_986_526);
+        see("accepted, I = 2,018,565: the last e above 0", r.inner == 2_018_565);
+        see("accepted, I = -2,018,565: the last e above 0", r.inner == -2_018_565);
+        see("accepted, e = 1, word 2 = 1", r.e2 == 1 && r.tested2 == 1);
         see("accepted, cosh sides of one high word", r.cosh_in_one_high_word());
     }
 
@@ -122,7 +127,8 @@ impl Coverage {
         see("rejected by the cosh test alone, I below 0", BY_COSH, r.inner < 0);
         see("rejected by cosh sides of one high word alone", BY_COSH, r.cosh_in_one_high_word());
         see("rejected by e = 0 alone, word 2 = 0", BY_COSH, r.e2 == 0 && r.tested2 == 0);
-        see("rejected by I = 1,986,526 alone, word 2 = 0", BY_COSH, r.inner.abs() == 1_986_526 && r.tested2 == 0);
+        see("rejected by I = 2,018,566 alone, word 2 = 0", BY_COSH, r.inner.abs() == 2_018_566 && r.tested2 == 0);
+        see("rejected by e = 1 alone, word 2 = 2", BY_COSH, r.e2 == 1 && r.tested2 == 2);
     }
 
     /// Values of z1 at its limit, and of z2 above it, in a response that is accepted.
@@ -155,12 +161,25 @@ impl Coverage {
 
     /// Words 1 and 2 on both sides of what decides, with each pair of top bits.
     fn count_edges_of_words(&mut self, call: &Call, r: &Response) {
-        let (left, right) = r.cosh_sides();
         let mut see = |word: usize, case: &str, met: bool| self.see_by_top_bits(case, call.words[word], met);
         see(1, "accepted, word 1 = e(N1) - 1", r.bit() && r.tested1 + 1 == r.e1);
         see(1, "rejected by word 1 = e(N1) alone", r.tests() == BY_WORD_1 && r.tested1 == r.e1);
-        see(2, "accepted, the last word 2 to pass", r.bit() && left + r.cosh_factor() >= right);
-        see(2, "rejected by the first word 2 not to pass alone", r.tests() == BY_COSH && left < right + r.cosh_factor());
+        see(2, "accepted, the last word 2 to pass", r.bit() && r.is_last_to_pass());
+        see(2, "rejected by the first word 2 not to pass alone", r.tests() == BY_COSH && r.is_first_not_to_pass());
+    }
+
+    /// Words 1 and 2 of a response that is accepted, and would not be by the cut e(N1), by the cut e(N2), or by f rounded.
+    fn count_rounding(&mut self, call: &Call, r: &Response) {
+        let cut = r.cut();
+        let f_rounded = Response { f: (r.e2 * r.e2 + (1 << 61)) >> 62, ..r.clone() };
+        let mut see = |word: usize, case: &str, met: bool| self.see_by_top_bits(case, call.words[word], met && r.bit());
+        let by_word_1 = cut.tests() == BY_WORD_1;
+        see(1, "accepted, word 1 = e(N1) - 1, not by the cut e(N1)", by_word_1 && r.tested1 + 1 == r.e1);
+        see(1, "accepted, word 1 = the cut e(N1)", by_word_1 && r.tested1 == cut.e1);
+        let by_cosh = cut.tests() == BY_COSH;
+        see(2, "accepted, the last word 2 to pass, not by the cut e(N2)", by_cosh && r.is_last_to_pass());
+        see(2, "accepted, the first word 2 not to pass by the cut e(N2)", by_cosh && cut.is_first_not_to_pass());
+        see(2, "accepted, the last word 2 to pass, not by f rounded", f_rounded.tests() == BY_COSH && r.is_last_to_pass());
     }
 }
 
@@ -172,6 +191,16 @@ impl Response {
 
     fn cosh_sides(&self) -> (u128, u128) {
         (self.tested2 * self.cosh_factor(), self.e2 << 63)
+    }
+
+    fn is_last_to_pass(&self) -> bool {
+        let (left, right) = self.cosh_sides();
+        left < right && right <= left + self.cosh_factor()
+    }
+
+    fn is_first_not_to_pass(&self) -> bool {
+        let (left, right) = self.cosh_sides();
+        right <= left && left < right + self.cosh_factor()
     }
 
     fn cosh_in_one_high_word(&self) -> bool {

@@ -23,6 +23,8 @@ pub struct Attempt {
     pub b: u64,
     /// Bit 8 of word 2.
     pub negative: bool,
+    /// N = b(b + 512x).
+    pub n: u64,
     /// e(N).
     pub e: u128,
     /// 62 of word 3.
@@ -40,9 +42,10 @@ impl Attempt {
         }
         let b = words[2] % 256;
         let negative = words[2] / 256 % 2 == 1;
-        let e = u128::from(exponential(b * (b + 512 * x)));
+        let n = b * (b + 512 * x);
+        let e = u128::from(exponential(n));
         let tested = of_62(words[3]);
-        Attempt { d, x, b, negative, e, tested }
+        Attempt { d, x, b, negative, n, e, tested }
     }
 
     pub fn size(&self) -> u64 {

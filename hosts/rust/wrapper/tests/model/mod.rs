@@ -1,6 +1,6 @@
 //! Document 01's opening, draw, respond, filled part and exponential, and document 02's key check, test of z1, records, blank
-//! response and order of the CDT, written from these documents alone, in whole numbers wide enough for each sum and in plain
-//! loops. What the box must answer, and leave behind, for every input.
+//! response, order of the CDT and rounded squarings, written from these documents alone, in whole numbers wide enough for each sum
+//! and in plain loops. What the box must answer, and leave behind, for every input.
 
 pub mod draw;
 pub mod key_check;
@@ -40,16 +40,23 @@ pub fn exponential(n: u64) -> u64 {
     if n > EXPONENTIAL_LIMIT {
         return (1 << 63) + 12;
     }
+    let mut a = evaluated(n);
+    // By document 02's S-7 each squaring adds 2^61 before the whole part is taken.
+    for _ in 0..6 {
+        a = (a * a + (1 << 61)) / ONE;
+    }
+    a as u64
+}
+
+/// The value of the polynomial at N, from which the squarings start.
+pub fn evaluated(n: u64) -> u128 {
     let r = (1 << 84) / 5_916_800;
     let v = u128::from(n) * r / (1 << 22);
     let mut a = u128::from(POLYNOMIAL[20]);
     for j in (0..20).rev() {
         a = u128::from(POLYNOMIAL[j]) - a * v / ONE;
     }
-    for _ in 0..6 {
-        a = a * a / ONE;
-    }
-    a as u64
+    a
 }
 
 #[derive(Clone, Copy, Debug, PartialEq, Eq)]

@@ -111,6 +111,10 @@ pub struct Response {
     pub response_squares: u128,
     /// I, the sum of products of z and Sc.
     pub inner: i128,
+    /// 46,225 - A, or 0 if A is larger.
+    pub n1: u64,
+    /// The smaller of 2|I| and 5,534,960.
+    pub n2: u64,
     /// e(N1).
     pub e1: u128,
     /// e = e(N2).
@@ -133,13 +137,14 @@ impl Response {
         let product_squares = sum_of_squares(product);
         let response_squares = sum_of_squares(&z);
         let inner = inner_product(&z, product);
-        let n1 = PRODUCT_LIMIT.saturating_sub(product_squares);
-        let n2 = (2 * inner.unsigned_abs()).min(u128::from(EXPONENTIAL_LIMIT));
-        let e1 = u128::from(exponential(n1 as u64));
-        let e2 = u128::from(exponential(n2 as u64));
+        let n1 = PRODUCT_LIMIT.saturating_sub(product_squares) as u64;
+        let n2 = (2 * inner.unsigned_abs()).min(u128::from(EXPONENTIAL_LIMIT)) as u64;
+        let e1 = u128::from(exponential(n1));
+        let e2 = u128::from(exponential(n2));
+        // Document 02 leaves f its cut.
         let f = e2 * e2 / ONE;
         let (tested1, tested2) = (of_62(words[1]), of_62(words[2]));
-        Response { minus, z, product_squares, response_squares, inner, e1, e2, f, tested1, tested2 }
+        Response { minus, z, product_squares, response_squares, inner, n1, n2, e1, e2, f, tested1, tested2 }
     }
 
     /// z1: the first n values of z.

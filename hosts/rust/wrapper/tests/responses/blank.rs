@@ -4,6 +4,7 @@ use super::{changed, noise_at_the_limit, plain, tests};
 use crate::calls::DEGREES;
 use crate::comparison::Comparison;
 use crate::coverage::{ACCEPTED, BY_WORD_1, BY_Z, BY_Z1};
+use crate::cut_exponential::cut_exponential;
 use crate::model::exponential;
 use crate::model::respond::{Answer, Call};
 
@@ -85,6 +86,8 @@ fn word_1_and_z1_decide(comparison: &Comparison, n: usize) {
     let e = exponential(46_225);
     assert_eq!(tests("word 1 = e(46,225) - 1".into(), &|call| call.words[1] = e - 1), ACCEPTED);
     assert_eq!(tests("word 1 = e(46,225)".into(), &|call| call.words[1] = e), BY_WORD_1);
+    let cut_e = cut_exponential(46_225);
+    assert_eq!(tests("word 1 = the cut e(46,225)".into(), &|call| call.words[1] = cut_e), ACCEPTED);
     assert_eq!(tests("word 2 = 2^64 - 1".into(), &|call| call.words[2] = u64::MAX), ACCEPTED);
     for (place, value) in [(0, 2101), (0, -2101), (n - 1, 2101), (n - 1, -2101)] {
         assert_eq!(tests(format!("value {place} of z1 at {value}"), &|call| call.y[place] = value), BY_Z1);
