@@ -2,7 +2,8 @@
 
 usage: exact_exponentials.py PROGRAM, which reads n, one a line, and writes each with its value (exponentials.c)
 
-A value must equal e(n) by document 01's rules in whole numbers, and be at most 1024 units of 2^-62 from the exact fraction.
+A value must equal e(n) by document 01 and request S-7 in whole numbers, and be at most 960 units of 2^-62 from the exact
+fraction.
 """
 from pathlib import Path
 from random import Random
@@ -19,8 +20,10 @@ REFUSED = [exact.LIMIT + 1, 2**23, 2**32, 2**32 + 513, 2**62, 2**63, 2**63 + 12,
 
 
 def served_points():
-    """Both ends, the largest N1, where e(n) becomes 0, every n that an attempt can have, a spread over all, and random ones."""
-    points = {*range(1000), *range(exact.LIMIT - 999, exact.LIMIT + 1), 46225, 92450, *range(3973000, 3973100)}
+    """Both ends, the largest N1, where e(n) is farthest below and above the exact fraction, where it becomes 0 and where squarings
+    that cut would make it 0, every n that an attempt can have, a spread over all, and random ones."""
+    points = {*range(1000), *range(exact.LIMIT - 999, exact.LIMIT + 1), 46225, 92450, 1552, 6120}
+    points.update(range(4037100, 4037200), range(3973000, 3973100))
     points.update(b * (b + 512 * x) for x in range(11) for b in range(256))
     points.update(range(0, exact.LIMIT, 1009))
     random = Random(1)

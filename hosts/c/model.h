@@ -1,4 +1,4 @@
-/* The exponential of document 01 in C with 128-bit integers, written from the document alone. */
+/* The exponential of document 01 with request S-7 in C with 128-bit integers, written from the documents alone. */
 #ifndef MODEL_H
 #define MODEL_H
 
@@ -28,7 +28,7 @@ static inline uint64_t model_exponential(uint64_t n)
     for (int j = 19; j >= 0; j--)
         a = model_table[j] - (uint64_t)((u128)a * v >> 62);
     for (int i = 0; i < 6; i++)
-        a = (uint64_t)((u128)a * a >> 62);
+        a = (uint64_t)(((u128)a * a + (UINT64_C(1) << 61)) >> 62);
     return a;
 }
 

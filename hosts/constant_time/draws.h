@@ -65,6 +65,14 @@ static inline uint64_t base_sample(u128 d)
     return x;
 }
 
+/* N of an attempt with these words. */
+static inline uint64_t n_of_attempt(const uint64_t *w)
+{
+    uint64_t b = w[2] & 255;
+
+    return b * (b + 512 * base_sample(two_words(low62(w[0]), low62(w[1]))));
+}
+
 /* The words of an attempt with this accept bit and this kind of d; a minus zero has a d of 0. */
 static inline void fill_attempt(uint64_t *w, uint64_t bit, uint64_t kind)
 {

@@ -24,6 +24,32 @@ LEAK leaking_lookup(uint64_t n)
     return polynomial[n % BLISS_POLYNOMIAL_WORDS];
 }
 
+/* What the six squarings of e(n) start with. */
+static inline uint64_t before_squarings(uint64_t n)
+{
+    uint64_t v = (uint64_t)(((u128)1 << 84) / 5916800 * n >> 22);
+    uint64_t a = polynomial[20];
+
+    for (int j = 19; j >= 0; j--)
+        a = polynomial[j] - (uint64_t)((u128)a * v >> 62);
+    return a;
+}
+
+/* e(n), with squarings that cut, and go up by a jump where the fraction is a half or more. */
+LEAK jumping_squarings(uint64_t n)
+{
+    volatile uint64_t a = before_squarings(n);
+
+    for (int i = 0; i < 6; i++) {
+        u128 square = (u128)a * a;
+
+        a = (uint64_t)(square >> 62);
+        if (square >> 61 & 1)
+            a++;
+    }
+    return a;
+}
+
 /* A word of the CDT table, by a load that the compiler keeps. */
 static inline uint64_t cdt_word(size_t place)
 {

@@ -194,17 +194,29 @@ static inline uint64_t quotient(u128 a, u128 b)
     return found;
 }
 
+/* N1 and N2 of a response. */
+static inline uint64_t n1_of(struct measures m)
+{
+    return if_bit(m.squares <= 46225, 46225 - m.squares, 0);
+}
+
+static inline uint64_t n2_of(struct measures m)
+{
+    uint64_t doubled = 2 * if_bit((uint64_t)m.inner >> 63, -(uint64_t)m.inner, (uint64_t)m.inner);
+
+    return if_bit(doubled <= BLISS_EXPONENTIAL_LIMIT, doubled, BLISS_EXPONENTIAL_LIMIT);
+}
+
 /* e(N1): the first word 1 that does not pass; 2^62 if all do. */
 static inline uint64_t first_edge(struct measures m)
 {
-    return bliss_exponential(if_bit(m.squares <= 46225, 46225 - m.squares, 0));
+    return bliss_exponential(n1_of(m));
 }
 
 /* The first word 2 that does not pass; 2^62 if all do. */
 static inline uint64_t cosh_edge(struct measures m)
 {
-    uint64_t doubled = 2 * if_bit((uint64_t)m.inner >> 63, -(uint64_t)m.inner, (uint64_t)m.inner);
-    uint64_t e = bliss_exponential(if_bit(doubled <= BLISS_EXPONENTIAL_LIMIT, doubled, BLISS_EXPONENTIAL_LIMIT));
+    uint64_t e = bliss_exponential(n2_of(m));
     u128 factor = one + (uint64_t)((u128)e * e >> 62);
 
     return quotient(((u128)e << 63) + factor - 1, factor);

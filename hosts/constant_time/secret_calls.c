@@ -245,6 +245,48 @@ static void leaking_place(void)
     }
 }
 
+/* The exponential at an N of a prepared call. Its value is right: the jumps are its only fault. */
+static void leak_by_rounding(uint64_t n)
+{
+    uint64_t e;
+
+    lent.n = n;
+    begin_call();
+    e = jumping_squarings(lent.n);
+    reveal(&e, sizeof e);
+    as_chosen &= e == bliss_exponential(n);
+}
+
+/* The words of draws decide how the squarings of their exponentials round. */
+static void leaking_draw_rounding(void)
+{
+    for (uint64_t i = 0; i < OFTEN; i++) {
+        prepare_draw((struct draw){4, 128, 8, 11, i});
+        leak_by_rounding(n_of_attempt(lent.draw_words));
+    }
+}
+
+/* And so do the key and the noise of responses: N1 by the key, N2 by both. */
+static void leak_by_response(uint64_t (*n_of)(struct measures))
+{
+    for (uint64_t i = 0; i < OFTEN; i++) {
+        struct response r = {4, 4, 1, BLISS_SERVED, i};
+
+        prepare_response(r);
+        leak_by_rounding(n_of(measures_of(r, sign_of(lent.response_words[0] & 1))));
+    }
+}
+
+static void leaking_n1_rounding(void)
+{
+    leak_by_response(n1_of);
+}
+
+static void leaking_n2_rounding(void)
+{
+    leak_by_response(n2_of);
+}
+
 /* Scans of the first attempt of a draw. */
 static void leak_by_scan(uint64_t (*scan)(const uint64_t *))
 {
@@ -318,6 +360,9 @@ static const struct kind {
     {"key_refused_13", key_refused_13},
     {"leaking_n", leaking_n},
     {"leaking_place", leaking_place},
+    {"leaking_draw_rounding", leaking_draw_rounding},
+    {"leaking_n1_rounding", leaking_n1_rounding},
+    {"leaking_n2_rounding", leaking_n2_rounding},
     {"leaking_high_words", leaking_high_words},
     {"leaking_held_words", leaking_held_words},
     {"leaking_low_words", leaking_low_words},

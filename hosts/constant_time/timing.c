@@ -209,6 +209,12 @@ static uint64_t call_leaking_exponential(void)
     return leaking_exponential(lent.n);
 }
 
+static uint64_t call_jumping_squarings(void)
+{
+    found = jumping_squarings(lent.n);
+    return 0;
+}
+
 static uint64_t call_early_exit_scan(void)
 {
     found = early_exit_scan(lent.draw_words);
@@ -245,6 +251,7 @@ static const struct timed all_timed[] = {
     {"bliss_check_key: the key is 0, or any that passes", zero_key, any_key, call_check_key, 0, RESPONSE, 1000, false},
     {"bliss_check_key, refusal 10: bad first or anywhere", bad_key_first, bad_key_any, call_check_key, 10, RESPONSE, 50000, false},
     {"leaking: a loop of n mod 16 turns", zero_n, any_n, call_leaking_exponential, 0, N, 1000000, true},
+    {"leaking: squarings that round by a jump", zero_n, any_n, call_jumping_squarings, 0, N, 1000000, true},
     {"leaking: a scan that ends above d", zero_attempt, any_attempt, call_early_exit_scan, 0, ATTEMPT, 1000000, true},
     {"leaking: a scan that skips low words", zero_attempt, attempt_by_low_word, call_skipping_scan, 0, ATTEMPT, 1000000, true},
     {"leaking: a check that ends at the bad value", bad_key_first, bad_key_any, call_early_exit_check, 0, RESPONSE, 50000, true},
