@@ -47,7 +47,7 @@ def main(archive):
         found = {kind: functions[function][kind] for kind in expected}
         if found != expected:
             sys.exit(f"{function} has {found}, and not {expected}")
-        print(f"{function}: {expected['mul']} mul, {expected['imul']} imul, {expected['jump']} jump(s)")
+        print(f"{function}: {', '.join(f'{count} {kind}' for kind, count in found.items())}")
     if divided := [function for function, counts in functions.items() if counts["div"]]:
         sys.exit(f"there are divisions in {', '.join(divided)}")
 

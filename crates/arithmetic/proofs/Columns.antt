@@ -3,6 +3,8 @@ use mathlib.Core.Path.{_≡_, refl, ap}
 use Prim.Native.Nat.{ℕ, _+_, _*_, _/_, _%_, _^_}
 use native.Mathlib.Nat.{div-add-mod'}
 use native.Mathlib.Omega.{arith}
+use lib.Dec.{lit<}
+use Rattle.arithmetic.proofs.Scale.{cut-factor}
 
 -- The product by its columns, given each column's carry and digit.
 pub columns : (P a₀ a₁ b₀ b₁ q₀ r₀ q r q₁ r₁ : ℕ) → a₀ * b₀ ≡ q₀ * P + r₀ → a₁ * b₀ + q₀ ≡ q * P + r → r + a₀ * b₁ ≡ q₁ * P + r₁
@@ -12,9 +14,6 @@ columns P a₀ a₁ b₀ b₁ q₀ r₀ q r q₁ r₁ e₀ e e₁ = omega (arith
 -- What a column carries on does not reach the digits below it.
 same-digit : (m₁ m₂ c : ℕ) → (m₁ % 2 ^ 32 + m₂ % 2 ^ 32 + c) % 2 ^ 32 ≡ ((m₁ + c) % 2 ^ 32 + m₂) % 2 ^ 32
 same-digit m₁ m₂ c = omega arith
-
-as-high-half : (x : ℕ) → x * 2 ^ 32 % 2 ^ 64 ≡ x % 2 ^ 32 * 2 ^ 32
-as-high-half x = omega arith
 
 low-digits : {x : ℕ} (h u w : ℕ) → h * 2 ^ 64 + (u % 2 ^ 32 * 2 ^ 32 + w % 2 ^ 32) ≡ x → u % 2 ^ 32 * 2 ^ 32 + w % 2 ^ 32 ≡ x % 2 ^ 64
 low-digits h u w e = omega arith
@@ -39,4 +38,5 @@ module _ (a b w m₁ m₂ m₃ : ℕ)
   low-word =
       let t = m₁ + w / 2 ^ 32 in
       let u = t % 2 ^ 32 + m₂ in
-      rw (as-high-half, same-digit m₁ m₂ (w / 2 ^ 32)) (low-digits _ u w (words t u refl refl))
+      rw (cut-factor (2 ^ 32) (2 ^ 32) (m₁ % 2 ^ 32 + m₂ % 2 ^ 32 + w / 2 ^ 32) (lit< tt) (lit< tt), same-digit m₁ m₂ (w / 2 ^ 32))
+      (low-digits _ u w (words t u refl refl))

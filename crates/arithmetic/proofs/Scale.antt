@@ -11,10 +11,11 @@ scaled-quotient x y m a b h =
     let e : (x * a) * (y * b) ≡ x * y * (a * b) = omega arith in
     ap (λ (n : ℕ). n / (x * y * m)) e ∙ mul-div-mul-left (a * b) m h
 
--- The first factor is cut to what is below m, and scaled.
-cut-factor : (m x a : ℕ) → 0 < m → 0 < x → a * x % (m * x) ≡ a % m * x
+-- What is scaled is cut to what is below m.
+pub cut-factor : (m x a : ℕ) → 0 < m → 0 < x → a * x % (m * x) ≡ a % m * x
 cut-factor m x a hm hx = mod-mul (a * x) hm hx ∙ rw (mul-div-cancel a hx, mul-mod-left a x) (omega arith)
 
+-- The first factor is cut so.
 pub cut-quotient : (m x a b : ℕ) → 0 < m → 0 < x → a * x % (m * x) * b / (m * x) ≡ a % m * b / m
 cut-quotient m x a b hm hx =
     let e : a % m * x * b ≡ a % m * b * x = omega arith in

@@ -14,10 +14,14 @@ use Rattle.error_bound.proofs.Exact.{sum, size, added, taken}
 use Rattle.exponential.proofs.Table.{factorial-pos, entry-low, product-small, small-entry, table-at}
 use Rattle.error_bound.proofs.ErrorStep.{step}
 use Rattle.error_bound.specs.ErrorBound.{InRange}
-use Rattle.error_bound.proofs.Near.{Near, quotient-high}
+use Rattle.error_bound.proofs.Near.{Near}
 use Rattle.error_bound.proofs.Coefficients.{scale, scale-suc, scale-top, scale-zero, coefficient-factorial, coefficient-le}
 use Rattle.error_bound.proofs.Coefficients.{coefficient-top, coefficient-zero}
 use Rattle.error_bound.proofs.Scaled.{scaled-near, scaled-le}
+
+-- a quotient is cut by less than one
+quotient-high : (x : ℕ) → x ≤ 2 ^ 62 * (x / 2 ^ 62) + 2 ^ 62
+quotient-high x = omega (arith, lt-div-mul-add {a = x} {b = 2 ^ 62} (pow-pos 62))
 
 -- 7 / 3 units over (j + 1)!, in 240ths, rounded up; and 1 if 2 ^ 62 / j! is not whole
 unfoldable weight : ℕ → ℕ

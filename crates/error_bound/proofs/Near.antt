@@ -1,8 +1,5 @@
 -- What it is for a value in units of 2 ^ -62 to be near a fraction. Assumes nothing.
-use Prim.Native.Nat.{ℕ, _+_, _*_, _/_, _^_, _≤_}
-use native.Mathlib.Nat.{lt-div-mul-add}
-use native.Mathlib.Omega.{arith}
-use lib.Pow.{pow-pos}
+use Prim.Native.Nat.{ℕ, _+_, _*_, _^_, _≤_}
 
 -- a is within E units of 2 ^ 62 * S / D, where S / D is at most 1
 pub record Near (E a S D : ℕ) : Type 0 where
@@ -10,7 +7,3 @@ pub record Near (E a S D : ℕ) : Type 0 where
   pub proper : S ≤ D
   pub above : a * D ≤ 2 ^ 62 * S + E * D
   pub below : 2 ^ 62 * S ≤ a * D + E * D
-
--- a quotient is cut by less than one
-pub quotient-high : (x : ℕ) → x ≤ 2 ^ 62 * (x / 2 ^ 62) + 2 ^ 62
-quotient-high x = omega (arith, lt-div-mul-add {a = x} {b = 2 ^ 62} (pow-pos 62))
