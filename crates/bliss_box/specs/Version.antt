@@ -5,6 +5,6 @@ use Prim.Native.Nat.{ℕ, _+_, _*_}
 abbrev pub versionNumber : (major minor patch : ℕ) → ℕ
 versionNumber major minor patch = 10000 * major + 100 * minor + patch
 
--- 0.9.0
+-- 0.10.0
 abbrev pub version : ℕ
-version = versionNumber 0 9 0
+version = versionNumber 0 10 0

@@ -23,15 +23,15 @@ use session::Session;
 pub extern "C" fn bliss_version() -> u32
     ensures { λ r. ⌜ r ≡ version ⌝ }
 {
-    900
+    1000
 }
 
-// Opens a session of degree n.
+// Opens a session of degree n, for noise of a deviation.
 #[no_mangle]
-pub extern "C" fn bliss_open(n: usize) -> Opened
-    ensures { λ r. ⌜ r ≡ opened n ⌝ }
+pub extern "C" fn bliss_open(n: usize, deviation: u64) -> Opened
+    ensures { λ r. ⌜ r ≡ opened n deviation ⌝ }
 {
-    Session::open(n)
+    Session::open(n, deviation)
 }
 
 // Draws 2n samples into y within a limit of attempts. After the checks, the reads of words and tables are listed from the start of the

@@ -1,4 +1,5 @@
 pub mod JoinedTests
+pub mod Among
 pub mod Degrees
 pub mod AllBelow
 pub mod Lines

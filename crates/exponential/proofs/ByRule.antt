@@ -8,7 +8,7 @@ use lib.ListN.{getD}
 use borrow.Author.Tests.{le-leb, lt-leb, lt-ltb, le-ltb}
 use Rattle.exponential.specs.Exponential.{polynomialEntry, polynomial, reciprocal, scaled, evaluate, squared, squarings}
 use Rattle.exponential.specs.Exponential.{expScaled, expWith, divisor, exp, limit, expOrRefusal}
-use Rattle.exponential.specs.Exponential.{ExponentialInTurn, ExponentialAlone}
+use Rattle.exponential.specs.Exponential.{InTurn, ExponentialInTurn, ExponentialAlone}
 use Rattle.exponential.proofs.Table.{table-at}
 
 -- ** In turn
@@ -52,15 +52,19 @@ module _ (q n : ℕ) where
       ap (λ (e : ℕ). squarings 6 (evaluate polynomial (scaled (reciprocal q) n) 20 e)) (table-at 20 (omega arith))
       ∙ ap (squarings 6) (evaluated-on 20 0 refl) ∙ squared-on 6 20 (omega arith) refl
 
+  pub in-turn : InTurn q n (expWith polynomial q n)
+  unfolding numbers
+  in-turn = record {
+    a = numbers;
+    start = refl;
+    evaluated = evaluated-next;
+    squared-next = λ i low high. squared-next i low;
+    last = last-is;
+  }
+
 pub exponential-in-turn : ExponentialInTurn
-unfolding numbers exp
-exponential-in-turn n = record {
-  a = numbers divisor n;
-  start = refl;
-  evaluated = evaluated-next divisor n;
-  squared-next = λ i low high. squared-next divisor n i low;
-  last = last-is divisor n;
-}
+unfolding exp
+exponential-in-turn n = in-turn divisor n
 
 -- ** By N alone
 

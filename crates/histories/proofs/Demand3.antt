@@ -1,8 +1,9 @@
 -- Demand 3: a read list tells the history and no more, and leaves out no place that an answer depends on. Assumes nothing.
 use mathlib.Core.Path.{_≡_, refl, sym, ap, ap₂, _∙_, subst}
-use mathlib.Core.Bool.{true, cond, false≢true}
+use mathlib.Core.Bool.{cond}
 use mathlib.Core.List.{List, [], _∷_, _++_}
 use Prim.Native.Nat.{ℕ}
+use native.Mathlib.Omega.{arith}
 use lib.Dec.{eqb}
 use lib.IntN.{ℤ}
 use Rattle.read_list.specs.Agreement.{Agree}
@@ -24,7 +25,7 @@ unfolding Linked
 linked-on s y c calls h linked = subst (λ (refusal : ℕ). Linked (nextIn (leftBy s c)) (cond (eqb refusal 0) (yIn (leftBy s c)) y) calls) h (linked .1)
 
 -- from one session; where y is drawn in it, both lists start from the same y
-same-lists : (s : Session) (y y′ : List ℤ) (calls calls′ : List Call) → (s .drawn ≡ true → y ≡ y′) → Linked s y calls → Linked s y′ calls′
+same-lists : (s : Session) (y y′ : List ℤ) (calls calls′ : List Call) → (s .drawn ≡ 1 → y ≡ y′) → Linked s y calls → Linked s y′ calls′
     → NoneRefused s calls → NoneRefused s calls′ → AllAlike calls calls′ → Agreeing s calls calls′
     → (seen s calls ≡ seen s calls′) × (readList s calls ≡ readList s calls′)
 unfolding Linked NoneRefused AllAlike Agreeing seen readList
@@ -44,17 +45,26 @@ same-lists s y y′ (c ∷ calls) (c′ ∷ calls′) ys l l′ h h′ alike sam
 
 -- ** From an opening
 
-same-opened : (n n′ : ℕ) → opened n .session .degree ≡ opened n′ .session .degree → opened n .session ≡ opened n′ .session
-unfolding opened
-same-opened n n′ degrees = rw degrees
+same-fields : (s s′ : Session) → s .degree ≡ s′ .degree → s .deviation ≡ s′ .deviation → s .drawn ≡ s′ .drawn → s ≡ s′
+same-fields s s′ degrees deviations drawn =
+    let fields : (degree deviation drawn : ℕ) → Session = λ n deviation drawn. record { degree = n; deviation = deviation; drawn = drawn } in
+    let same : fields (s .degree) (s .deviation) (s .drawn) ≡ fields (s′ .degree) (s′ .deviation) (s′ .drawn) = rw (degrees, deviations, drawn) in
+    same
+
+-- nothing is drawn in either
+same-opened : (n deviation n′ deviation′ : ℕ) → let s = opened n deviation .session in let s′ = opened n′ deviation′ .session in
+    s .degree ≡ s′ .degree → s .deviation ≡ s′ .deviation → s ≡ s′
+same-opened n deviation n′ deviation′ degrees deviations =
+    same-fields _ _ degrees deviations (opening-is-fresh n deviation .not-drawn ∙ sym (opening-is-fresh n′ deviation′ .not-drawn))
 
 -- ** Both halves
 
 pub demand3 : Demand3
-demand3 n n′ y y′ calls calls′ linked linked′ = (
-  reads-tell (opened n .session) (opened n′ .session) calls calls′,
-  λ degrees served served′ alike same.
-      let e = same-opened n n′ degrees in
-      rw (← e) (same-lists (opened n .session) y y′ calls calls′ (λ drawn. absurd (false≢true (sym (opening-is-fresh n .not-drawn) ∙ drawn)))
+demand3 n deviation n′ deviation′ y y′ calls calls′ linked linked′ = (
+  reads-tell (opened n deviation .session) (opened n′ deviation′ .session) calls calls′,
+  λ degrees deviations served served′ alike same.
+      let e = same-opened n deviation n′ deviation′ degrees deviations in
+      let none = opening-is-fresh n deviation .not-drawn in
+      rw (← e) (same-lists (opened n deviation .session) y y′ calls calls′ (λ drawn. absurd (omega (arith, none, drawn)))
       linked (rw (← e) at linked′) served (rw (← e) at served′) alike same),
 )

@@ -1,6 +1,5 @@
 -- Two calls from one session that agree on the first one's entries give and leave the same. Assumes nothing.
 use mathlib.Core.Path.{_≡_, sym, _∙_}
-use mathlib.Core.Bool.{true}
 use Prim.Native.Nat.{_*_, _^_, _≤_}
 use native.Mathlib.Omega.{arith}
 use Rattle.checks.proofs.Degrees.{degree-range}
@@ -89,7 +88,7 @@ module _ (s : Session) (r r′ : Respond)
 
 -- where y is drawn both are lent the same y
 pub same-calls : (s : Session) (c c′ : Call) → refusalIn (leftBy s c) ≡ 0 → refusalIn (leftBy s c′) ≡ 0 → Alike c c′
-    → (s .drawn ≡ true → lentY c ≡ lentY c′) → Agree (lent c) (lent c′) (renderEvent (eventOf s c)) → SameCall s c c′
+    → (s .drawn ≡ 1 → lentY c ≡ lentY c′) → Agree (lent c) (lent c′) (renderEvent (eventOf s c)) → SameCall s c c′
 unfolding leftBy eventOf renderEvent
 same-calls s (draw d) (draw d′) h h′ alike ys same = same-draws s d d′ h h′ alike same
 same-calls s (draw d) (respond r) h h′ alike ys same = absurd alike

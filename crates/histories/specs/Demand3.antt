@@ -63,14 +63,15 @@ seen s (c ∷ calls) = seenIn (leftBy s c) ∷ seen (nextIn (leftBy s c)) calls
 -- ** Demand 3
 
 -- For any two openings, any y at the start of either, and any two lists of calls from them:
--- the read lists are equal exactly when the histories are; and where the degrees are equal, no call is refused, the calls are alike one
--- by one, and both are lent the same at every place on the first one's read list, every call of the one gives and leaves what its
--- counterpart in the other does, and the read lists are equal.
+-- the read lists are equal exactly when the histories are; and where the degrees are equal and so are the deviations, no call is refused,
+-- the calls are alike one by one, and both are lent the same at every place on the first one's read list, every call of the one gives and
+-- leaves what its counterpart in the other does, and the read lists are equal.
 abbrev pub Demand3 : Type 0
 Demand3 =
-    (n n′ : ℕ) (y y′ : List ℤ) (calls calls′ : List Call) → let s = opened n .session in let s′ = opened n′ .session in
+    (n deviation n′ deviation′ : ℕ) (y y′ : List ℤ) (calls calls′ : List Call) →
+    let s = opened n deviation .session in let s′ = opened n′ deviation′ .session in
     Linked s y calls → Linked s′ y′ calls′ →
     ((readList s calls ≡ readList s′ calls′) ↔ (history s calls ≡ history s′ calls′))
-    × (s .degree ≡ s′ .degree → NoneRefused s calls → NoneRefused s′ calls′ →
+    × (s .degree ≡ s′ .degree → s .deviation ≡ s′ .deviation → NoneRefused s calls → NoneRefused s′ calls′ →
     AllAlike calls calls′ → Agreeing s calls calls′ →
     (seen s calls ≡ seen s′ calls′) × (readList s calls ≡ readList s′ calls′))

@@ -1,5 +1,5 @@
 -- What demand 3's second half asks of two lists of calls is no more than document 01 says: two calls more that are served, alike and lent
--- the same at every place on the first one's list meet it, at any degree. Assumes nothing.
+-- the same at every place on the first one's list meet it, at any degree and any deviation. Assumes nothing.
 use mathlib.Core.Path.{_≡_}
 use mathlib.Core.List.{List, [], _∷_, List·Memᴰ}
 use Prim.Native.Nat.{ℕ, _/_, _%_, _^_}
@@ -10,7 +10,7 @@ use Rattle.session.specs.Calls.{Draw, drawLeft, Respond, respondLeft}
 use Rattle.histories.specs.Histories.{Call, draw, respond, Linked}
 use Rattle.histories.specs.Demand3.{NoneRefused, AllAlike, Agreeing}
 
--- all that it asks for, but for equal degrees
+-- all that it asks for, but for equal degrees and equal deviations
 pub record Premises (s s′ : Session) (y y′ : List ℤ) (calls calls′ : List Call) : Type 0 where
   pub linked : Linked s y calls
   pub linked′ : Linked s′ y′ calls′

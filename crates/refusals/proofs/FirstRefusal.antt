@@ -1,4 +1,4 @@
--- The refusals of Refusals are the first that apply, by document 01's table. Assumes nothing.
+-- The refusals of Refusals are the first that apply, by the table of documents 01 and 02. Assumes nothing.
 use mathlib.Core.Path.{_≡_, refl, sym, ap, _∙_}
 use mathlib.Core.Bool.{Bool, true, false, _&&_, false≢true}
 use mathlib.Core.List.{List, [], _∷_}
@@ -13,21 +13,25 @@ use lib.Seq.{ext-getD}
 use borrow.Author.Tests.{eqb-true, leb-false}
 use Rattle.signed.specs.Vectors.{allWithin}
 use Rattle.signed.proofs.Vectors.{within-at}
-use Rattle.checks.specs.Checks.{isDegree, allBelow, Line, line, firstRefusal}
-use Rattle.checks.specs.RefusalTable.{Refuses}
+use Rattle.checks.specs.Checks.{among, isDegree, allBelow, Line, line, firstRefusal}
+use Rattle.checks.specs.RefusalTable.{Refuses, Serves}
 use Rattle.checks.proofs.JoinedTests.{both-true}
 use Rattle.checks.proofs.AllBelow.{all-at}
+use Rattle.checks.proofs.Lines.{from}
 use Rattle.checks.proofs.RefusalTable.{FailsWhere, refuses, skips, serves, fails-unequal, fails-above, fails-from, fails-either, fails-somewhere}
 use Rattle.checks.proofs.RefusalTable.{fails-no-degree, fails-empty}
 use Rattle.exponential.specs.Exponential.{polynomialEntry, entriesFrom, polynomial, isPolynomial}
 use Rattle.exponential.proofs.Table.{table-at, polynomial-of, is-polynomial}
+use Rattle.deviations.specs.Deviations.{isDeviation}
+use Rattle.deviations.proofs.Deviations.{is-deviation, deviation-of}
 use Rattle.base_sample.specs.BaseSample.{threshold, wordsSmall, neverFalls, isCdt}
 use Rattle.challenge.specs.Challenge.{positionsBelow, ascends, arePositions, isChallenge}
 use Rattle.challenge.proofs.Positions.{no-positions}
 use Rattle.response.specs.Response.{respondListLength}
-use Rattle.refusals.specs.Refusals.{openRefusal, drawRefusal, noiseTests, respondRefusal}
-use Rattle.refusals.specs.FirstRefusal.{NoDegree, NoCdt, NoPolynomial, TooMany, NoPositions, Outside, OpeningRefuses, DrawRefuses}
-use Rattle.refusals.specs.FirstRefusal.{NoiseRefuses, RespondRefuses, BlankRefuses}
+use Rattle.refusals.specs.Refusals.{openRefusal, drawTests, drawRefusal, noiseTests, respondTests, respondRefusal}
+use Rattle.refusals.specs.FirstRefusal.{NoDeviation, NoCdt, NoPolynomial, TooMany, NoPositions, Outside}
+use Rattle.refusals.specs.FirstRefusal.{DrawLines, NoiseLines, RespondLines, BlankLines}
+use Rattle.refusals.specs.FirstRefusal.{OpeningRefuses, DrawRefuses, RespondRefuses, RefusesAt215}
 
 -- ** The tests of single lines
 
@@ -91,34 +95,28 @@ pub fails-no-challenge : (n : ℕ) (challenge : List ℕ)
 unfolding isChallenge
 fails-no-challenge n challenge = fails-either (fails-empty (length challenge)) (fails-no-positions n challenge)
 
--- ** The table
+-- ** The lines of a draw
 
-pub opening-refuses : (n : ℕ) → OpeningRefuses n (openRefusal n)
-unfolding openRefusal
-opening-refuses n = refuses 1 [] (fails-no-degree n) (λ e. serves)
-
-pub draw-refuses : (n limit : ℕ) (cdt table : List ℕ) (words y list : ℕ)
-    → DrawRefuses n limit cdt table words y list (drawRefusal n limit cdt table words y list)
-unfolding drawRefusal
-draw-refuses n limit cdt table words y list =
-    refuses 1 _ (fails-no-degree n) (λ p1.
+draw-lines : (n deviation limit : ℕ) (cdt table : List ℕ) (words y list : ℕ)
+    → DrawLines n limit cdt table words y list (firstRefusal (from 2 (drawTests n deviation limit cdt table words y list)))
+unfolding from
+draw-lines n deviation limit cdt table words y list =
     refuses 2 _ (fails-either (fails-unequal (length cdt) 20) (fails-either (fails-unequal (length table) 21) (fails-unequal y (2 * n)))) (λ p2.
     refuses 3 _ (fails-no-cdt cdt) (λ p3.
     refuses 4 _ (fails-no-polynomial table (twenty-one p2)) (λ p4.
     refuses 5 _ (fails-either (fails-above (2 * n) limit) (fails-above limit (32 * n))) (λ p5.
     refuses 7 _ (fails-above (4 * limit) words) (λ p7.
-    refuses 8 _ (fails-above (46 * limit + 2) list) (λ p8. serves)))))))
+    refuses 8 _ (fails-above (46 * limit + 2) list) (λ p8. serves))))))
   where
     twenty-one : (eqb (length cdt) 20 && (eqb (length table) 21 && eqb y (2 * n))) ≡ true → length table ≡ 21
     twenty-one e = eqb-true (length table) 21 (both-true (eqb (length table) 21) _ (both-true (eqb (length cdt) 20) _ e .1) .0)
 
-fails-not-drawn : (drawn : Bool) → FailsWhere drawn (drawn ≡ false)
-fails-not-drawn drawn = record { fails = λ e. e; holds = λ e not-drawn. false≢true (sym not-drawn ∙ e) }
+-- ** The lines of a respond
 
--- a respond's lines as to y and the key
-noise-refuses : (drawn : Bool) (key y : List ℤ) → NoiseRefuses drawn key y (firstRefusal (noiseTests drawn key y))
-noise-refuses drawn key y =
-    refuses 9 _ (fails-not-drawn drawn) (λ p9.
+-- as to y and the key
+noise-lines : (drawn : ℕ) (key y : List ℤ) → NoiseLines drawn key y (firstRefusal (noiseTests drawn key y))
+noise-lines drawn key y =
+    refuses 9 _ (fails-unequal drawn 1) (λ p9.
     refuses 10 _ (fails-outside 7 key) (λ p10.
     refuses 11 _ (fails-outside 2815 y) (λ p11. serves)))
 
@@ -128,33 +126,91 @@ module _ (n : ℕ) (table : List ℕ) (y key : List ℤ) (z : ℕ) (later : ℕ 
   lengths = eqb (length table) 21 && (eqb (length y) (2 * n) && (eqb z (2 * n) && eqb (length key) (2 * n)))
 
   before-challenge : later (firstRefusal lines) →
-      Refuses 1 (NoDegree n)
-      (Refuses 2 ((length table ≢ 21) ⊎ (length y ≢ 2 * n) ⊎ (z ≢ 2 * n) ⊎ (length key ≢ 2 * n))
-      (Refuses 4 (NoPolynomial table) later))
-      (firstRefusal (line 1 (isDegree n) ∷ line 2 lengths ∷ line 4 (isPolynomial table) ∷ lines))
+      Refuses 2 ((length table ≢ 21) ⊎ (length y ≢ 2 * n) ⊎ (z ≢ 2 * n) ⊎ (length key ≢ 2 * n))
+      (Refuses 4 (NoPolynomial table) later)
+      (firstRefusal (line 2 lengths ∷ line 4 (isPolynomial table) ∷ lines))
   unfolding lengths
   before-challenge rest =
-      refuses 1 _ (fails-no-degree n) (λ p1.
       refuses 2 _ (fails-either (fails-unequal (length table) 21) (fails-either (fails-unequal (length y) (2 * n)) (fails-either (fails-unequal z (2 * n)) (fails-unequal (length key) (2 * n))))) (λ p2.
-      refuses 4 _ (fails-no-polynomial table (eqb-true (length table) 21 (both-true (eqb (length table) 21) _ p2 .0))) (λ p4. rest)))
+      refuses 4 _ (fails-no-polynomial table (eqb-true (length table) 21 (both-true (eqb (length table) 21) _ p2 .0))) (λ p4. rest))
 
-module _ (n : ℕ) (drawn : Bool) (table : List ℕ) (words : ℕ) (key y : List ℤ) (z list : ℕ) where
-  pub respond-refuses : (challenge : List ℕ)
-      → RespondRefuses n drawn challenge table words key y z list (respondRefusal n drawn challenge table words key y z list)
-  unfolding respondRefusal lengths
-  respond-refuses challenge =
+module _ (n deviation drawn : ℕ) (table : List ℕ) (words : ℕ) (key y : List ℤ) (z list : ℕ) where
+  respond-lines : (challenge : List ℕ)
+      → RespondLines n drawn challenge table words key y z list
+      (firstRefusal (from 2 (respondTests n deviation drawn challenge table words key y z list)))
+  unfolding from lengths
+  respond-lines challenge =
       before-challenge n table y key z _ _
       (refuses 6 _ (fails-no-positions n challenge) (λ p6.
       refuses 7 _ (fails-above 3 words) (λ p7.
-      refuses 8 _ (fails-above (2 * n * length challenge + 47) list) (λ p8. noise-refuses drawn key y))))
+      refuses 8 _ (fails-above (2 * n * length challenge + 47) list) (λ p8. noise-lines drawn key y))))
 
-  pub blank-refuses : BlankRefuses n drawn table words key y z list (respondRefusal n drawn [] table words key y z list)
-  unfolding respondRefusal lengths
-  blank-refuses =
+  blank-lines : BlankLines n drawn table words key y z list (firstRefusal (from 2 (respondTests n deviation drawn [] table words key y z list)))
+  unfolding from lengths
+  blank-lines =
       before-challenge n table y key z _ _
       (rw (skips 6 _ (no-positions n))
       (refuses 7 _ (fails-above 3 words) (λ p7.
-      refuses 8 _ no-key-entries (λ p8. noise-refuses drawn key y))))
+      refuses 8 _ no-key-entries (λ p8. noise-lines drawn key y))))
     where
       no-key-entries : FailsWhere (leb (respondListLength n 0) list) (list < 47)
       no-key-entries = rw (mul-zero (2 * n)) (fails-above 47 list)
+
+-- ** The whole table
+
+fails-no-deviation : (deviation : ℕ) → FailsWhere (isDeviation deviation) (NoDeviation deviation)
+fails-no-deviation deviation = record {
+  fails = λ e one. false≢true (sym e ∙ sym (is-deviation deviation one));
+  holds = λ e none. none (deviation-of deviation e);
+}
+
+-- 215 is one of the four
+is-215 : isDeviation 215 ≡ true
+unfolding isDeviation among
+is-215 = refl
+
+module _ (n : ℕ) (later : ℕ → Type 0) (lines : List Line) (rest : later (firstRefusal lines)) where
+  deviation-first : (deviation : ℕ)
+      → DrawRefuses n deviation later (firstRefusal (line 1 (isDegree n) ∷ line 16 (isDeviation deviation) ∷ lines))
+  deviation-first deviation = refuses 1 _ (fails-no-degree n) (λ p1. refuses 16 _ (fails-no-deviation deviation) (λ p16. rest))
+
+  at-215 : RefusesAt215 n later (firstRefusal (line 1 (isDegree n) ∷ line 16 (isDeviation 215) ∷ lines))
+  at-215 = refuses 1 _ (fails-no-degree n) (λ p1. rw (skips 16 lines is-215) rest)
+
+pub opening-refuses : (n deviation : ℕ) → OpeningRefuses n deviation (openRefusal n deviation)
+unfolding openRefusal
+opening-refuses n deviation = deviation-first n _ [] serves deviation
+
+pub opening-refuses-at-215 : (n : ℕ) → RefusesAt215 n Serves (openRefusal n 215)
+unfolding openRefusal
+opening-refuses-at-215 n = at-215 n _ [] serves
+
+module _ (n limit : ℕ) (cdt table : List ℕ) (words y list : ℕ) where
+  pub draw-refuses : (deviation : ℕ)
+      → DrawRefuses n deviation (DrawLines n limit cdt table words y list) (drawRefusal n deviation limit cdt table words y list)
+  unfolding drawRefusal from
+  draw-refuses deviation = deviation-first n _ _ (draw-lines n deviation limit cdt table words y list) deviation
+
+  pub draw-refuses-at-215 : RefusesAt215 n (DrawLines n limit cdt table words y list) (drawRefusal n 215 limit cdt table words y list)
+  unfolding drawRefusal from
+  draw-refuses-at-215 = at-215 n _ _ (draw-lines n 215 limit cdt table words y list)
+
+module _ (n drawn : ℕ) (table : List ℕ) (words : ℕ) (key y : List ℤ) (z list : ℕ) where
+  pub respond-refuses : (deviation : ℕ) (challenge : List ℕ)
+      → RespondRefuses n deviation (RespondLines n drawn challenge table words key y z list)
+      (respondRefusal n deviation drawn challenge table words key y z list)
+  unfolding respondRefusal from
+  respond-refuses deviation challenge =
+      deviation-first n _ _ (refuses 17 _ (fails-unequal deviation 215) (λ p17. respond-lines n deviation drawn table words key y z list challenge)) deviation
+
+  pub blank-refuses : (deviation : ℕ)
+      → RespondRefuses n deviation (BlankLines n drawn table words key y z list) (respondRefusal n deviation drawn [] table words key y z list)
+  unfolding respondRefusal from
+  blank-refuses deviation =
+      deviation-first n _ _ (refuses 17 _ (fails-unequal deviation 215) (λ p17. blank-lines n deviation drawn table words key y z list)) deviation
+
+  pub respond-refuses-at-215 : (challenge : List ℕ)
+      → RefusesAt215 n (RespondLines n drawn challenge table words key y z list)
+      (respondRefusal n 215 drawn challenge table words key y z list)
+  unfolding respondRefusal from
+  respond-refuses-at-215 challenge = at-215 n _ _ (rw (skips 17 _ refl) (respond-lines n 215 drawn table words key y z list challenge))

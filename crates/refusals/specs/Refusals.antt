@@ -1,4 +1,4 @@
--- The refusals of document 01: of each call, the first that applies, or 0 where it is served. Assumes nothing.
+-- The refusals of documents 01 and 02: of each call, the first that applies, or 0 where it is served. Assumes nothing.
 use mathlib.Core.Bool.{Bool, _&&_}
 use mathlib.Core.List.{List, [], _∷_}
 use Prim.Native.Nat.{ℕ, _*_}
@@ -8,6 +8,7 @@ use lib.ListN.{length}
 use Rattle.signed.specs.Vectors.{allWithin}
 use Rattle.checks.specs.Checks.{isDegree, Line, line, firstRefusal}
 use Rattle.exponential.specs.Exponential.{isPolynomial}
+use Rattle.deviations.specs.Deviations.{isDeviation}
 use Rattle.base_sample.specs.BaseSample.{isCdt}
 use Rattle.base_sample.specs.HighWordsFirst.{isCdtBefore}
 use Rattle.sampler.specs.Draw.{drawListLength}
@@ -15,14 +16,24 @@ use Rattle.challenge.specs.Challenge.{arePositions, isChallenge}
 use Rattle.challenge_product.specs.Product.{keyBound}
 use Rattle.response.specs.Response.{noiseBound, respondListLength}
 
--- opening
-unfoldable pub openRefusal : (n : ℕ) → ℕ
-openRefusal n = firstRefusal (line 1 (isDegree n) ∷ [])
+-- ** Opening
 
--- drawing, where this tells which tables of 20 words are CDT tables; of the words, y and the list it looks at the lengths alone
-abbrev pub drawTestsBy : (isTable : List ℕ → Bool) (n limit : ℕ) (cdt polynomial : List ℕ) (words y list : ℕ) → List Line
-drawTestsBy isTable n limit cdt polynomial words y list =
+abbrev pub openTests : (n deviation : ℕ) → List Line
+openTests n deviation =
     line 1 (isDegree n)
+    ∷ line 16 (isDeviation deviation)
+    ∷ []
+
+unfoldable pub openRefusal : (n deviation : ℕ) → ℕ
+openRefusal n deviation = firstRefusal (openTests n deviation)
+
+-- ** Drawing
+
+-- where this tells which tables of 20 words are CDT tables; of the words, y and the list it looks at the lengths alone
+abbrev pub drawTestsBy : (isTable : List ℕ → Bool) (n deviation limit : ℕ) (cdt polynomial : List ℕ) (words y list : ℕ) → List Line
+drawTestsBy isTable n deviation limit cdt polynomial words y list =
+    line 1 (isDegree n)
+    ∷ line 16 (isDeviation deviation)
     ∷ line 2 (eqb (length cdt) 20 && (eqb (length polynomial) 21 && eqb y (2 * n)))
     ∷ line 3 (isTable cdt)
     ∷ line 4 (isPolynomial polynomial)
@@ -32,33 +43,38 @@ drawTestsBy isTable n limit cdt polynomial words y list =
     ∷ []
 
 -- the high words of a table come first, by request S-6
-abbrev pub drawTests : (n limit : ℕ) (cdt polynomial : List ℕ) (words y list : ℕ) → List Line
+abbrev pub drawTests : (n deviation limit : ℕ) (cdt polynomial : List ℕ) (words y list : ℕ) → List Line
 drawTests = drawTestsBy isCdt
 
-unfoldable pub drawRefusal : (n limit : ℕ) (cdt polynomial : List ℕ) (words y list : ℕ) → ℕ
-drawRefusal n limit cdt polynomial words y list = firstRefusal (drawTests n limit cdt polynomial words y list)
+unfoldable pub drawRefusal : (n deviation limit : ℕ) (cdt polynomial : List ℕ) (words y list : ℕ) → ℕ
+drawRefusal n deviation limit cdt polynomial words y list = firstRefusal (drawTests n deviation limit cdt polynomial words y list)
 
--- document 01's, by its order of a table's words
-unfoldable pub drawRefusalBefore : (n limit : ℕ) (cdt polynomial : List ℕ) (words y list : ℕ) → ℕ
-drawRefusalBefore n limit cdt polynomial words y list = firstRefusal (drawTestsBy isCdtBefore n limit cdt polynomial words y list)
+-- by document 01's order of a table's words
+unfoldable pub drawRefusalBefore : (n deviation limit : ℕ) (cdt polynomial : List ℕ) (words y list : ℕ) → ℕ
+drawRefusalBefore n deviation limit cdt polynomial words y list =
+    firstRefusal (drawTestsBy isCdtBefore n deviation limit cdt polynomial words y list)
 
--- responding, as to y and the key: nothing is drawn, or a value is out of range
-abbrev pub noiseTests : (drawn : Bool) (key y : List ℤ) → List Line
+-- ** Responding
+
+-- as to y and the key: nothing is drawn, or a value is out of range; 1 is drawn, and every other number is not
+abbrev pub noiseTests : (drawn : ℕ) (key y : List ℤ) → List Line
 noiseTests drawn key y =
-    line 9 drawn
+    line 9 (eqb drawn 1)
     ∷ line 10 (allWithin keyBound key)
     ∷ line 11 (allWithin noiseBound y)
     ∷ []
 
-unfoldable pub noiseRefusal : (drawn : Bool) (key y : List ℤ) → ℕ
+unfoldable pub noiseRefusal : (drawn : ℕ) (key y : List ℤ) → ℕ
 noiseRefusal drawn key y = firstRefusal (noiseTests drawn key y)
 
--- responding, where this tells which challenges are answered; of the words, z and the list it looks at the lengths alone
+-- where this tells which challenges are answered; of the words, z and the list it looks at the lengths alone
 abbrev pub respondTestsBy : (answers : (n : ℕ) (challenge : List ℕ) → Bool)
-    (n : ℕ) (drawn : Bool) (challenge polynomial : List ℕ) (words : ℕ) (key y : List ℤ) (z list : ℕ)
+    (n deviation drawn : ℕ) (challenge polynomial : List ℕ) (words : ℕ) (key y : List ℤ) (z list : ℕ)
     → List Line
-respondTestsBy answers n drawn challenge polynomial words key y z list =
+respondTestsBy answers n deviation drawn challenge polynomial words key y z list =
     line 1 (isDegree n)
+    ∷ line 16 (isDeviation deviation)
+    ∷ line 17 (eqb deviation 215)
     ∷ line 2 (eqb (length polynomial) 21 && (eqb (length y) (2 * n) && (eqb z (2 * n) && eqb (length key) (2 * n))))
     ∷ line 4 (isPolynomial polynomial)
     ∷ line 6 (answers n challenge)
@@ -67,17 +83,17 @@ respondTestsBy answers n drawn challenge polynomial words key y z list =
     ∷ noiseTests drawn key y
 
 -- the empty challenge is answered too, by request S-5
-abbrev pub respondTests : (n : ℕ) (drawn : Bool) (challenge polynomial : List ℕ) (words : ℕ) (key y : List ℤ) (z list : ℕ)
+abbrev pub respondTests : (n deviation drawn : ℕ) (challenge polynomial : List ℕ) (words : ℕ) (key y : List ℤ) (z list : ℕ)
     → List Line
 respondTests = respondTestsBy arePositions
 
-unfoldable pub respondRefusal : (n : ℕ) (drawn : Bool) (challenge polynomial : List ℕ) (words : ℕ) (key y : List ℤ) (z list : ℕ)
+unfoldable pub respondRefusal : (n deviation drawn : ℕ) (challenge polynomial : List ℕ) (words : ℕ) (key y : List ℤ) (z list : ℕ)
     → ℕ
-respondRefusal n drawn challenge polynomial words key y z list =
-    firstRefusal (respondTests n drawn challenge polynomial words key y z list)
+respondRefusal n deviation drawn challenge polynomial words key y z list =
+    firstRefusal (respondTests n deviation drawn challenge polynomial words key y z list)
 
--- document 01's, by which the empty challenge was refused
-unfoldable pub respondRefusalBefore : (n : ℕ) (drawn : Bool) (challenge polynomial : List ℕ) (words : ℕ) (key y : List ℤ)
+-- by document 01's line 6, by which the empty challenge was refused
+unfoldable pub respondRefusalBefore : (n deviation drawn : ℕ) (challenge polynomial : List ℕ) (words : ℕ) (key y : List ℤ)
     (z list : ℕ) → ℕ
-respondRefusalBefore n drawn challenge polynomial words key y z list =
-    firstRefusal (respondTestsBy isChallenge n drawn challenge polynomial words key y z list)
+respondRefusalBefore n deviation drawn challenge polynomial words key y z list =
+    firstRefusal (respondTestsBy isChallenge n deviation drawn challenge polynomial words key y z list)

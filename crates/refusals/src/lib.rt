@@ -1,10 +1,24 @@
 // The refusals of calls: of each call, the first that applies.
 ghost use mathlib.Core.Path.{_≡_};
-ghost use Rattle.refusals.specs.Refusals.{drawRefusal, noiseRefusal, respondRefusal};
+ghost use Rattle.refusals.specs.Refusals.{openRefusal, drawRefusal, noiseRefusal, respondRefusal};
+
+// The first refusal of an opening that applies, or 0.
+pub fn open_refusal(n: usize, deviation: u64) -> u32
+    ensures { λ r. ⌜ r ≡ openRefusal n deviation ⌝ }
+{
+    if !checks::is_degree(n) {
+        return refused::DEGREE;
+    }
+    if !deviations::is_deviation(deviation) {
+        return refused::DEVIATION;
+    }
+    0
+}
 
 // The first refusal of a draw that applies, or 0. Sizes are multiplied only after their factors are found small.
 pub fn draw_refusal(
     n: usize,
+    deviation: u64,
     limit: usize,
     cdt: &[u64],
     polynomial: &[u64],
@@ -12,10 +26,13 @@ pub fn draw_refusal(
     y: usize,
     list: usize,
 ) -> u32
-    ensures { λ r. ⌜ r ≡ drawRefusal n limit (now (cdt .entry)) (now (polynomial .entry)) words y list ⌝ }
+    ensures { λ r. ⌜ r ≡ drawRefusal n deviation limit (now (cdt .entry)) (now (polynomial .entry)) words y list ⌝ }
 {
     if !checks::is_degree(n) {
         return refused::DEGREE;
+    }
+    if !deviations::is_deviation(deviation) {
+        return refused::DEVIATION;
     }
     if (cdt.len() != base_sample::CDT_WORDS)
         | (polynomial.len() != exponential::POLYNOMIAL_WORDS)
@@ -46,7 +63,8 @@ pub fn draw_refusal(
 // The first refusal of a respond that applies, or 0.
 pub fn respond_refusal(
     n: usize,
-    drawn: bool,
+    deviation: u64,
+    drawn: u64,
     challenge: &[u32],
     polynomial: &[u64],
     words: usize,
@@ -56,10 +74,17 @@ pub fn respond_refusal(
     list: usize,
 ) -> u32
     ensures { λ r. ⌜ r
-        ≡ respondRefusal n drawn (now (challenge .entry)) (now (polynomial .entry)) words (now (key .entry)) (now (y .entry)) z list ⌝ }
+        ≡ respondRefusal n deviation drawn (now (challenge .entry)) (now (polynomial .entry)) words (now (key .entry)) (now (y .entry)) z
+        list ⌝ }
 {
     if !checks::is_degree(n) {
         return refused::DEGREE;
+    }
+    if !deviations::is_deviation(deviation) {
+        return refused::DEVIATION;
+    }
+    if deviation != deviations::BLISS_I {
+        return refused::RESPONSE_DEVIATION;
     }
     let both = 2 * n;
     if (polynomial.len() != exponential::POLYNOMIAL_WORDS)
@@ -87,10 +112,10 @@ pub fn respond_refusal(
 
 // The first of refusals 9 to 11 that applies, or 0. Key and y are looked at whole, and whether y is small is joined with whether the key
 // is: a branch on y alone would tell of y where the key is refused.
-fn noise_refusal(drawn: bool, key: &[i32], y: &[i32]) -> u32
+fn noise_refusal(drawn: u64, key: &[i32], y: &[i32]) -> u32
     ensures { λ r. ⌜ r ≡ noiseRefusal drawn (now (key .entry)) (now (y .entry)) ⌝ }
 {
-    if !drawn {
+    if drawn != 1 {
         return refused::NOT_DRAWN;
     }
     let key_small = signed::all_within(key, challenge_product::KEY_BOUND);

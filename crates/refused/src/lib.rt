@@ -44,3 +44,9 @@ pub const OUTPUT: u32 = 14;
 
 // A value is too large for a record, or bytes are no record.
 pub const RECORD: u32 = 15;
+
+// The deviation is none of the four.
+pub const DEVIATION: u32 = 16;
+
+// A response is asked for at another deviation than BLISS-I's.
+pub const RESPONSE_DEVIATION: u32 = 17;

@@ -25,7 +25,7 @@ pub blank-refuses-first : BlankRefusesFirst
 unfolding refusalOfRespond
 blank-refuses-first s r none =
     rw (respond-left s r .number-is, none)
-    (blank-refuses (s .degree) (s .drawn) (r .polynomial) (length (r .words)) (r .key) (r .y) (length (r .z)) (length (r .list)))
+    (blank-refuses (s .degree) (s .drawn) (r .polynomial) (length (r .words)) (r .key) (r .y) (length (r .z)) (length (r .list)) (s .deviation))
 
 exp-0 : exp 0 ≡ 2 ^ 62
 unfolding exp
@@ -63,4 +63,4 @@ blank-response s r none h =
 
 pub answered-as-before : AnsweredAsBefore
 unfolding respondLeft refusalOfRespond
-answered-as-before s r some = rw (refused-as-before _ _ (r .challenge) _ _ _ _ _ _ some)
+answered-as-before s r some = rw (refused-as-before _ _ _ (r .challenge) _ _ _ _ _ _ some)

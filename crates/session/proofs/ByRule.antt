@@ -1,4 +1,4 @@
--- Each call by the words of document 01 and request S-2. Assumes nothing.
+-- Each call by the words of document 01 and requests S-2 and S-8. Assumes nothing.
 use mathlib.Core.Path.{_≡_, refl, sym, _∙_}
 use mathlib.Core.Bool.{true}
 use mathlib.Core.List.{List}
@@ -6,7 +6,8 @@ use mathlib.Core.Logic.{_↔_}
 use Prim.Native.Nat.{ℕ, _*_}
 use lib.ListN.{length, getD}
 use Rattle.lists.proofs.AtTheStart.{take-written}
-use Rattle.exponential.specs.Exponential.{polynomial, expWith, divisor, exp}
+use Rattle.exponential.specs.Exponential.{polynomial, expWith, divisorAt, divisor, exp}
+use Rattle.deviations.specs.Deviations.{expAt}
 use Rattle.attempt.specs.Attempt.{bitAt}
 use Rattle.sampler.specs.Draw.{sampledBy, Stops}
 use Rattle.sampler.proofs.DrawStops.{draw-stops}
@@ -28,27 +29,28 @@ use Rattle.session.proofs.Calls.{draw-left, draw-passed, draw-fits, res
 
 pub opening-refuses-first : OpeningRefusesFirst
 unfolding opened
-opening-refuses-first n = opening-refuses n
+opening-refuses-first n deviation = opening-refuses n deviation
 
 pub draw-refuses-first : DrawRefusesFirst
 unfolding refusalOfDraw
-draw-refuses-first s d = rw (draw-left s d .number-is) (draw-refuses _ _ _ _ _ _ _)
+draw-refuses-first s d = rw (draw-left s d .number-is) (draw-refuses _ _ _ _ _ _ _ (s .deviation))
 
 pub respond-refuses-first : RespondRefusesFirst
 unfolding refusalOfRespond
-respond-refuses-first s r = rw (respond-left s r .number-is) (respond-refuses _ _ _ _ _ _ _ _ _)
+respond-refuses-first s r = rw (respond-left s r .number-is) (respond-refuses _ _ _ _ _ _ _ _ (s .deviation) _)
 
 -- ** A draw that is served
 
--- e(N) over the table of a call that is served
-pub exp-over : (table : List ℕ) → table ≡ polynomial → expWith table divisor ≡ exp
-unfolding exp
-exp-over table h = rw h
+-- e(N) over the table of a draw that is served
+pub exp-at-over : (deviation : ℕ) (table : List ℕ) → table ≡ polynomial → expWith table (divisorAt deviation) ≡ expAt deviation
+unfolding expAt
+exp-at-over deviation table h = rw h
 
 bits-stop : (s : Session) (d : Draw) → d .polynomial ≡ polynomial
-    → Stops (bitAt exp (d .cdt) (d .words)) 0 (d .limit) (2 * s .degree) (bitsOfDraw s d)
+    → Stops (bitAt (expAt (s .deviation)) (d .cdt) (d .words)) 0 (d .limit) (2 * s .degree) (bitsOfDraw s d)
 unfolding bitsOfDraw
-bits-stop s d h = rw (exp-over (d .polynomial) h) (draw-stops exp (d .cdt) (d .words) (d .limit) (2 * s .degree))
+bits-stop s d h =
+    rw (exp-at-over (s .deviation) (d .polynomial) h) (draw-stops (expAt (s .deviation)) (d .cdt) (d .words) (d .limit) (2 * s .degree))
 
 pub served-draw-by-rule : ServedDrawByRule
 unfolding drawServed sampledBy
@@ -63,6 +65,11 @@ served-draw-by-rule s d h =
     })
 
 -- ** A respond that is served
+
+-- e(N) over its table
+pub exp-over : (table : List ℕ) → table ≡ polynomial → expWith table divisor ≡ exp
+unfolding exp
+exp-over table h = rw h
 
 module _ (s : Session) (r : Respond) (h : respondLeft s r .responded .answer .refusal ≡ 0) where
   sc-as-long : length (product (r .key) (s .degree) (r .challenge)) ≡ length (r .y)

@@ -58,11 +58,12 @@ respond-left s r = chosen _ (refusalOfRespond s r) _ _ refl refl
 -- ** What is known of a call that is served
 
 abbrev pub DrawPassed : (s : Session) (d : Draw) → Type 0
-DrawPassed s d = DrawServed (s .degree) (d .limit) (d .cdt) (d .polynomial) (length (d .words)) (length (d .y)) (length (d .list))
+DrawPassed s d =
+    DrawServed (s .degree) (s .deviation) (d .limit) (d .cdt) (d .polynomial) (length (d .words)) (length (d .y)) (length (d .list))
 
 pub draw-passed : (s : Session) (d : Draw) → drawLeft s d .drawn .answer .refusal ≡ 0 → DrawPassed s d
 unfolding refusalOfDraw
-draw-passed s d h = draw-served _ _ _ _ _ _ _ (sym (draw-left s d .number-is) ∙ h)
+draw-passed s d h = draw-served _ _ _ _ _ _ _ _ (sym (draw-left s d .number-is) ∙ h)
 
 abbrev pub RespondPassed : (s : Session) (r : Respond) → Type 0
 RespondPassed s r =
@@ -71,7 +72,7 @@ RespondPassed s r =
 
 pub respond-passed : (s : Session) (r : Respond) → respondLeft s r .responded .answer .refusal ≡ 0 → RespondPassed s r
 unfolding refusalOfRespond
-respond-passed s r h = respond-served _ _ _ _ _ _ _ _ _ (sym (respond-left s r .number-is) ∙ h)
+respond-passed s r h = respond-served _ (s .deviation) _ _ _ _ _ _ _ _ (sym (respond-left s r .number-is) ∙ h)
 
 -- ** What a call writes into its list
 

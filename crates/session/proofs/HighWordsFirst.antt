@@ -5,7 +5,6 @@ use Prim.Native.Nat.{ℕ, _*_}
 use native.Mathlib.Omega.{arith}
 use lib.ListN.{length}
 use borrow.Author.Tests.{eq-eqb, ne-eqb}
-use Rattle.exponential.specs.Exponential.{exp}
 use Rattle.base_sample.specs.BaseSample.{baseSample}
 use Rattle.base_sample.specs.HighWordsFirst.{baseSampleBefore, reordered}
 use Rattle.base_sample.proofs.Reordering.{length-reordered, reordered-alike}
@@ -17,7 +16,7 @@ use Rattle.session.specs.declared.Session.{Session}
 use Rattle.session.specs.Calls.{Draw, refusalOfDraw, bitsOfDraw, drawServed, drawLeft, drawnServed}
 use Rattle.session.specs.HighWordsFirst.{DrawRefusedAsBefore, DrawnBy, DrawnAsBefore}
 use Rattle.session.proofs.Calls.{draw-left, draw-passed}
-use Rattle.session.proofs.ByRule.{exp-over}
+use Rattle.session.proofs.ByRule.{exp-at-over}
 
 -- ** Refusals
 
@@ -25,7 +24,7 @@ pub draw-refused-as-before : DrawRefusedAsBefore
 unfolding refusalOfDraw
 draw-refused-as-before s d table is-reordered =
     draw-left s d .number-is
-    ∙ rw is-reordered (reordered-as-before (s .degree) (d .limit) table (d .polynomial) (length (d .words)) (length (d .y)) (length (d .list)))
+    ∙ rw is-reordered (reordered-as-before (s .degree) (s .deviation) (d .limit) table (d .polynomial) (length (d .words)) (length (d .y)) (length (d .list)))
 
 -- ** A draw that is served
 
@@ -35,7 +34,7 @@ drawn-by : (s : Session) (d : Draw) → drawLeft s d .drawn .answer .refusal ≡
 unfolding drawServed sampledBy drawY bitsOfDraw drawBits bitAt sampleAt
 drawn-by s d h =
     rw (draw-left s d .where-served h) (record {
-      bits-by = rw (exp-over (d .polynomial) (draw-passed s d h .is-polynomial));
+      bits-by = rw (exp-at-over (s .deviation) (d .polynomial) (draw-passed s d h .is-polynomial));
       drawn = ap (λ (n : ℕ). drawnServed s (record { attempts = length (bitsOfDraw s d); accepted = accepted (bitsOfDraw s d); entries = n })) (length-drawEntries (s .degree) (bitsOfDraw s d));
       full = λ e. rw (eq-eqb (accepted (bitsOfDraw s d)) (2 * s .degree) e);
       spent = λ h. rw (ne-eqb (accepted (bitsOfDraw s d)) (2 * s .degree) (λ e. omega (arith, h, e)));

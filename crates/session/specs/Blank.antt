@@ -10,7 +10,7 @@ use Rattle.exponential.specs.Exponential.{exp}
 use Rattle.response.specs.Response.{respondedBy}
 use Rattle.response.specs.Blank.{BlankPasses, blankEntries}
 use Rattle.refusals.specs.Refusals.{respondRefusalBefore}
-use Rattle.refusals.specs.FirstRefusal.{BlankRefuses}
+use Rattle.refusals.specs.FirstRefusal.{BlankLines, RespondRefuses}
 use Rattle.session.specs.declared.Session.{Session}
 use Rattle.session.specs.Calls.{Respond, RespondLeft, bitOfRespond, zOfRespond, respondRefused, respondServed, respondLeft}
 
@@ -20,7 +20,8 @@ use Rattle.session.specs.Calls.{Respond, RespondLeft, bitOfRespond, zOfR
 abbrev pub BlankRefusesFirst : Type 0
 BlankRefusesFirst =
     (s : Session) (r : Respond) → r .challenge ≡ [] →
-    BlankRefuses (s .degree) (s .drawn) (r .polynomial) (length (r .words)) (r .key) (r .y) (length (r .z)) (length (r .list))
+    RespondRefuses (s .degree) (s .deviation)
+    (BlankLines (s .degree) (s .drawn) (r .polynomial) (length (r .words)) (r .key) (r .y) (length (r .z)) (length (r .list)))
     (respondLeft s r .responded .answer .refusal)
 
 -- a blank response: where its bit is 1, z is y as it was before the call; the bit is 1 exactly when y passes what is left of the tests, by
@@ -39,11 +40,11 @@ BlankResponse =
 
 -- ** All other challenges
 
--- document 01's refusal
+-- the refusal by document 01's line 6
 abbrev pub refusalBefore : (s : Session) (r : Respond) → ℕ
 refusalBefore s r =
-    respondRefusalBefore (s .degree) (s .drawn) (r .challenge) (r .polynomial) (length (r .words)) (r .key) (r .y) (length (r .z))
-    (length (r .list))
+    respondRefusalBefore (s .degree) (s .deviation) (s .drawn) (r .challenge) (r .polynomial) (length (r .words)) (r .key) (r .y)
+    (length (r .z)) (length (r .list))
 
 -- what a respond left by it
 abbrev pub leftBefore : (s : Session) (r : Respond) → RespondLeft

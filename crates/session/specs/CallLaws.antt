@@ -1,25 +1,26 @@
 -- What follows for every call, refused or served, said of what the caller sees and not by the definitions of Calls. Assumes nothing.
 use mathlib.Core.Path.{_≡_}
-use mathlib.Core.Bool.{true, false}
-use mathlib.Core.Logic.{_↔_}
+use mathlib.Core.Bool.{false}
+use mathlib.Core.Logic.{_↔_, _≢_}
 use Prim.Native.Nat.{ℕ, _*_, _≤_}
 use lib.IntN.{pos}
 use lib.ListN.{length, drop, replicate}
 use Rattle.sampler.specs.Draw.{drawListLength}
 use Rattle.response.specs.Response.{respondListLength}
 use Rattle.session.specs.declared.Session.{Session}
+use Rattle.session.specs.declared.Opened.{Opened}
 use Rattle.session.specs.Calls.{opened, Draw, DrawLeft, drawLeft, Respond, RespondLeft, respondLeft}
 
 -- ** An opening
 
--- nothing is drawn; served, the degree is n, and refused 0
-pub record Fresh (n : ℕ) : Type 0 where
-  pub not-drawn : opened n .session .drawn ≡ false
-  pub served : opened n .refusal ≡ 0 → opened n .session .degree ≡ n
-  pub refused : (opened n .refusal ≡ 0 → ⊥) → opened n .session .degree ≡ 0
+-- nothing is drawn; served, the degree is n and the deviation the one that was asked for, and refused both are 0
+pub record Fresh (n deviation : ℕ) (o : Opened) : Type 0 where
+  pub not-drawn : o .session .drawn ≡ 0
+  pub served : o .refusal ≡ 0 → (o .session .degree ≡ n) × (o .session .deviation ≡ deviation)
+  pub refused : (o .refusal ≡ 0 → ⊥) → (o .session .degree ≡ 0) × (o .session .deviation ≡ 0)
 
 abbrev pub OpeningIsFresh : Type 0
-OpeningIsFresh = (n : ℕ) → Fresh n
+OpeningIsFresh = (n deviation : ℕ) → Fresh n deviation (opened n deviation)
 
 -- ** A draw
 
@@ -32,6 +33,10 @@ DrawCountsEntries =
 -- it keeps the degree
 abbrev pub DrawKeepsDegree : Type 0
 DrawKeepsDegree = (s : Session) (d : Draw) → drawLeft s d .drawn .session .degree ≡ s .degree
+
+-- and the deviation
+abbrev pub DrawKeepsDeviation : Type 0
+DrawKeepsDeviation = (s : Session) (d : Draw) → drawLeft s d .drawn .session .deviation ≡ s .deviation
 
 -- the session, y and the list are as they were, and nothing is counted
 pub record DrawUntouched (s : Session) (d : Draw) (left : DrawLeft) : Type 0 where
@@ -48,10 +53,11 @@ RefusedDrawTouchesNothing =
     (s : Session) (d : Draw) → let left = drawLeft s d in
     (left .drawn .answer .refusal ≡ 0 → ⊥) → DrawUntouched s d left
 
--- served, y is drawn exactly where it is full, and all zero where it is spent
+-- served, drawn is 1 exactly where it is full, and else 0; then y is all zero
 pub record DrawnIfFull (s : Session) (left : DrawLeft) : Type 0 where
-  pub full : (left .drawn .session .drawn ≡ true) ↔ (left .drawn .answer .accepted ≡ 2 * s .degree)
-  pub spent : left .drawn .session .drawn ≡ false → left .y ≡ replicate (2 * s .degree) (pos 0)
+  pub full : (left .drawn .session .drawn ≡ 1) ↔ (left .drawn .answer .accepted ≡ 2 * s .degree)
+  pub spent : left .drawn .answer .accepted ≢ 2 * s .degree
+      → (left .drawn .session .drawn ≡ 0) × (left .y ≡ replicate (2 * s .degree) (pos 0))
 
 abbrev pub ServedDrawSetsDrawn : Type 0
 ServedDrawSetsDrawn =
@@ -72,6 +78,10 @@ RespondCountsEntries =
 abbrev pub RespondKeepsDegree : Type 0
 RespondKeepsDegree = (s : Session) (r : Respond) → respondLeft s r .responded .session .degree ≡ s .degree
 
+-- and the deviation
+abbrev pub RespondKeepsDeviation : Type 0
+RespondKeepsDeviation = (s : Session) (r : Respond) → respondLeft s r .responded .session .deviation ≡ s .deviation
+
 -- the session, y, z and the list are as they were, and the bit and the count are 0
 pub record RespondUntouched (s : Session) (r : Respond) (left : RespondLeft) : Type 0 where
   pub session : left .responded .session ≡ s
@@ -89,7 +99,7 @@ RefusedRespondTouchesNothing =
 
 -- served, nothing is drawn any more, y is all zero, and so is z where the bit is 0
 pub record NoiseSpent (s : Session) (left : RespondLeft) : Type 0 where
-  pub not-drawn : left .responded .session .drawn ≡ false
+  pub not-drawn : left .responded .session .drawn ≡ 0
   pub y : left .y ≡ replicate (2 * s .degree) (pos 0)
   pub z : left .responded .answer .bit ≡ false → left .z ≡ replicate (2 * s .degree) (pos 0)
 

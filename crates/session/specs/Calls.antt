@@ -1,11 +1,12 @@
--- What each call of document 01 gives and leaves, for every input. Assumes nothing.
+-- What each call of documents 01 and 02 gives and leaves, for every input. Assumes nothing.
 use mathlib.Core.Bool.{Bool, false, cond}
 use mathlib.Core.List.{List}
 use Prim.Native.Nat.{ℕ, _*_}
 use lib.Dec.{eqb}
 use lib.IntN.{ℤ}
 use lib.ListN.{length}
-use Rattle.exponential.specs.Exponential.{expWith, divisor}
+use mir.Val.{boolByte}
+use Rattle.exponential.specs.Exponential.{expWith, divisorAt, divisor}
 use Rattle.sampler.specs.declared.Counts.{Counts}
 use Rattle.sampler.specs.Draw.{drawBits, isFull, Sampled, sampledBy}
 use Rattle.challenge_product.specs.Product.{product}
@@ -19,9 +20,15 @@ use Rattle.session.specs.declared.Responded.{Responded}
 
 -- ** Opening
 
--- a session of the degree n where it is served, else of degree 0; nothing is drawn
-unfoldable pub opened : (n : ℕ) → Opened
-opened n = record { refusal = openRefusal n; session = record { degree = cond (eqb (openRefusal n) 0) n 0; drawn = false } }
+-- a session with nothing drawn
+abbrev pub fresh : (degree deviation : ℕ) → Session
+fresh degree deviation = record { degree = degree; deviation = deviation; drawn = 0 }
+
+-- a session of the degree n and this deviation where it is served, else of degree 0 and deviation 0; nothing is drawn
+unfoldable pub opened : (n deviation : ℕ) → Opened
+opened n deviation =
+    let refusal = openRefusal n deviation in
+    record { refusal = refusal; session = cond (eqb refusal 0) (fresh n deviation) (fresh 0 0) }
 
 -- ** Drawing
 
@@ -50,21 +57,26 @@ afterDraw drawn y list = record { drawn = drawn; y = y; list = list }
 
 -- the first refusal that applies, or 0
 unfoldable pub refusalOfDraw : (s : Session) (d : Draw) → ℕ
-refusalOfDraw s d = drawRefusal (s .degree) (d .limit) (d .cdt) (d .polynomial) (length (d .words)) (length (d .y)) (length (d .list))
+refusalOfDraw s d =
+    drawRefusal (s .degree) (s .deviation) (d .limit) (d .cdt) (d .polynomial) (length (d .words)) (length (d .y)) (length (d .list))
 
--- the accept bits of its attempts, by e(N) over the lent polynomial table, at deviation 215
+-- the accept bits of its attempts, by e(N) over the lent polynomial table, at the session's deviation
 unfoldable pub bitsOfDraw : (s : Session) (d : Draw) → List Bool
-bitsOfDraw s d = drawBits (expWith (d .polynomial) divisor) (d .cdt) (d .words) (d .limit) (2 * s .degree)
+bitsOfDraw s d = drawBits (expWith (d .polynomial) (divisorAt (s .deviation))) (d .cdt) (d .words) (d .limit) (2 * s .degree)
 
 -- what a refused draw hands back: its number, with 0 for every count, and the same session
 abbrev pub drawnRefused : (refusal : ℕ) (s : Session) → Drawn
 drawnRefused refusal s = record { answer = record { refusal = refusal; attempts = 0; accepted = 0; entries = 0 }; session = s }
 
--- what a served draw hands back: its counts; full sets drawn, and spent clears it
+-- what a served draw hands back: its counts; full sets drawn to 1, and spent to 0
 abbrev pub drawnServed : (s : Session) (counts : Counts) → Drawn
 drawnServed s counts = record {
   answer = record { refusal = 0; attempts = counts .attempts; accepted = counts .accepted; entries = counts .entries };
-  session = record { degree = s .degree; drawn = isFull (2 * s .degree) (counts .accepted) };
+  session = record {
+    degree = s .degree;
+    deviation = s .deviation;
+    drawn = boolByte (isFull (2 * s .degree) (counts .accepted));
+  };
 }
 
 -- what a refused draw leaves: y and the list stay
@@ -120,10 +132,10 @@ afterRespond responded y z list = record { responded = responded; y = y; z = z; 
 -- the first refusal that applies, or 0
 unfoldable pub refusalOfRespond : (s : Session) (r : Respond) → ℕ
 refusalOfRespond s r =
-    respondRefusal (s .degree) (s .drawn) (r .challenge) (r .polynomial) (length (r .words)) (r .key) (r .y) (length (r .z))
+    respondRefusal (s .degree) (s .deviation) (s .drawn) (r .challenge) (r .polynomial) (length (r .words)) (r .key) (r .y) (length (r .z))
     (length (r .list))
 
--- its bit, by e(N) over the lent polynomial table, at deviation 215
+-- its bit, by e(N) over the lent polynomial table, at deviation 215, the only one that is served
 unfoldable pub bitOfRespond : (s : Session) (r : Respond) → Bool
 bitOfRespond s r = responseBit (expWith (r .polynomial) divisor) (s .degree) (r .y) (product (r .key) (s .degree) (r .challenge)) (r .words)
 
@@ -139,7 +151,7 @@ respondedRefused refusal s = record { answer = record { refusal = refusal; bit =
 abbrev pub respondedServed : (s : Session) (answer : Answer) → Responded
 respondedServed s answer = record {
   answer = record { refusal = 0; bit = answer .bit; entries = answer .entries };
-  session = record { degree = s .degree; drawn = false };
+  session = fresh (s .degree) (s .deviation);
 }
 
 -- what a refused respond leaves: y, z and the list stay

@@ -7,7 +7,7 @@ use Prim.Native.Nat.{ℕ, _+_, _*_, _<_}
 use lib.IntN.{pos}
 use lib.ListN.{length, replicate}
 use lib.Seq.{sets}
-use Rattle.exponential.specs.Exponential.{exp}
+use Rattle.deviations.specs.Deviations.{expAt}
 use Rattle.base_sample.specs.HighWordsFirst.{baseSampleBefore, reordered}
 use Rattle.attempt.specs.Attempt.{bitBy, sampleBy}
 use Rattle.sampler.specs.Draw.{bitsFrom, accepted, samplesFrom, drawEntries}
@@ -22,14 +22,14 @@ abbrev pub DrawRefusedAsBefore : Type 0
 DrawRefusedAsBefore =
     (s : Session) (d : Draw) (table : List ℕ) → d .cdt ≡ reordered table →
     drawLeft s d .drawn .answer .refusal
-    ≡ drawRefusalBefore (s .degree) (d .limit) table (d .polynomial) (length (d .words)) (length (d .y)) (length (d .list))
+    ≡ drawRefusalBefore (s .degree) (s .deviation) (d .limit) table (d .polynomial) (length (d .words)) (length (d .y)) (length (d .list))
 
 -- ** A draw that is served
 
 -- these are the bits of its attempts, where each draw has the base sample that x gives it; its answer counts them, y has the samples that
 -- are accepted, and the list the entries
 pub record DrawnBy (x : ℕ → ℕ) (s : Session) (d : Draw) (left : DrawLeft) (bits : List Bool) : Type 0 where
-  pub bits-by : bits ≡ bitsFrom (bitBy exp x (d .words)) 0 (d .limit) (2 * s .degree)
+  pub bits-by : bits ≡ bitsFrom (bitBy (expAt (s .deviation)) x (d .words)) 0 (d .limit) (2 * s .degree)
   pub drawn : left .drawn
       ≡ drawnServed s (record { attempts = length bits; accepted = accepted bits; entries = 46 * length bits + 2 })
   pub full : accepted bits ≡ 2 * s .degree → left .y ≡ samplesFrom (sampleBy x (d .words)) 0 bits

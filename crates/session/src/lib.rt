@@ -1,15 +1,18 @@
-// Sessions: a degree, and whether y is drawn. Each call takes the session by value, and hands back the next one with its answer.
+// Sessions: a degree, a deviation, and whether y is drawn. Each call takes the session by value, and hands back the next one with its
+// answer.
 ghost use mathlib.Core.Path.{_≡_};
 ghost use Prim.Native.Nat.{_≤_};
-ghost use Rattle.session.specs.Calls.{opened, drawOf, afterDraw, drawnRefused, drawnServed, drawLeft};
+ghost use Rattle.session.specs.Calls.{fresh, opened, drawOf, afterDraw, drawnRefused, drawnServed, drawLeft};
 ghost use Rattle.session.specs.Calls.{respondOf, afterRespond, respondedRefused, respondedServed, respondLeft};
 use response::Answer;
 use sampler::Counts;
 
+// y is drawn where drawn is 1, and at any other number it is not.
 #[repr(C)]
 pub struct Session {
     pub degree: usize,
-    pub drawn: bool,
+    pub deviation: u64,
+    pub drawn: u64,
 }
 
 // What opening hands back.
@@ -51,25 +54,31 @@ pub struct Responded {
 }
 
 impl Session {
-    // Opens a session of degree n.
-    pub fn open(n: usize) -> Opened
-        ensures { λ r. ⌜ r ≡ opened n ⌝ }
+    // Opens a session of degree n, for noise of a deviation.
+    pub fn open(n: usize, deviation: u64) -> Opened
+        ensures { λ r. ⌜ r ≡ opened n deviation ⌝ }
     {
-        if checks::is_degree(n) {
+        let refusal = refusals::open_refusal(n, deviation);
+        if refusal != 0 {
             return Opened {
-                refusal: 0,
-                session: Session {
-                    degree: n,
-                    drawn: false,
-                },
+                refusal,
+                session: Session::fresh(0, 0),
             };
         }
         Opened {
-            refusal: refused::DEGREE,
-            session: Session {
-                degree: 0,
-                drawn: false,
-            },
+            refusal,
+            session: Session::fresh(n, deviation),
+        }
+    }
+
+    // A session with nothing drawn.
+    fn fresh(degree: usize, deviation: u64) -> Session
+        ensures { λ r. ⌜ r ≡ fresh degree deviation ⌝ }
+    {
+        Session {
+            degree,
+            deviation,
+            drawn: 0,
         }
     }
 
@@ -91,6 +100,7 @@ impl Session {
         let n = self.degree;
         let refusal = refusals::draw_refusal(
             n,
+            self.deviation,
             limit,
             cdt,
             polynomial,
@@ -101,21 +111,14 @@ impl Session {
         if refusal != 0 {
             return self.drawn_refused(refusal);
         }
-        let counts = sampler::draw(
-            n,
-            limit,
-            cdt,
-            polynomial,
-            exponential::RECIPROCAL_215,
-            words,
-            y,
-            list,
-        );
+        let reciprocal = deviations::reciprocal_at(self.deviation);
+        let counts = sampler::draw(n, limit, cdt, polynomial, reciprocal, words, y, list);
         self.drawn_served(counts)
     }
 
-    // Responds to a challenge: z holds y and the product of the key with the challenge, added or subtracted, where the bit is 1, else it
-    // is all zero. y becomes all zero. After the checks, the reads of key, words and table are listed from the start of the list on.
+    // Responds to a challenge, at BLISS-I's deviation alone: z holds y and the product of the key with the challenge, added or subtracted,
+    // where the bit is 1, else it is all zero. y becomes all zero. After the checks, the reads of key, words and table are listed from the
+    // start of the list on.
     pub fn respond(
         self,
         challenge: &[u32],
@@ -133,6 +136,7 @@ impl Session {
         let n = self.degree;
         let refusal = refusals::respond_refusal(
             n,
+            self.deviation,
             self.drawn,
             challenge,
             polynomial,
@@ -189,7 +193,8 @@ impl Session {
             },
             session: Session {
                 degree: n,
-                drawn: counts.accepted == 2 * n,
+                deviation: self.deviation,
+                drawn: (counts.accepted == 2 * n) as u64,
             },
         }
     }
@@ -218,10 +223,7 @@ impl Session {
                 bit: answer.bit,
                 entries: answer.entries,
             },
-            session: Session {
-                degree: self.degree,
-                drawn: false,
-            },
+            session: Session::fresh(self.degree, self.deviation),
         }
     }
 }

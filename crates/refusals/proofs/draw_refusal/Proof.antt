@@ -17,12 +17,12 @@ use Rattle.refusals.proofs.draw_refusal.Statement.{statement}
 use Rattle.refusals.proofs.draw_refusal.Tie as tie
 
 abbrev tests : tie.Start → List Line
-tests s = let a = s .args in drawTests (a .n) (a .limit) (a .cdt .now) (a .polynomial .now) (a .words) (a .y) (a .list)
+tests s = let a = s .args in drawTests (a .n) (a .deviation) (a .limit) (a .cdt .now) (a .polynomial .now) (a .words) (a .y) (a .list)
 
 abbrev From : (refusal : ℕ) → tie.Start → Type 0
 From k s =
     let a = s .args in
-    Reached (drawRefusal (a .n) (a .limit) (a .cdt .now) (a .polynomial .now) (a .words) (a .y) (a .list)) (from k (tests s))
+    Reached (drawRefusal (a .n) (a .deviation) (a .limit) (a .cdt .now) (a .polynomial .now) (a .words) (a .y) (a .list)) (from k (tests s))
 
 -- ** The states: the start, from behind each test
 
@@ -32,16 +32,22 @@ start c = c .before .before .before
 abbrev behind-1 : tie.Else1 → tie.Start
 behind-1 c = start (c .before)
 
-abbrev behind-2 : tie.Else2 → tie.Start
-behind-2 c = behind-1 (c .before)
+abbrev behind-16 : tie.Else2 → tie.Start
+behind-16 c = behind-1 (c .before .before)
 
-abbrev behind-3 : tie.Else3 → tie.Start
+abbrev degree-tested : tie.Else3 → tie.Else1
+degree-tested c = c .before .before .before
+
+abbrev behind-2 : tie.Else3 → tie.Start
+behind-2 c = behind-16 (c .before)
+
+abbrev behind-3 : tie.Else4 → tie.Start
 behind-3 c = behind-2 (c .before .before .before)
 
-abbrev behind-4 : tie.Else4 → tie.Start
+abbrev behind-4 : tie.Else5 → tie.Start
 behind-4 c = behind-3 (c .before)
 
-abbrev behind-5 : tie.Else5 → tie.Start
+abbrev behind-5 : tie.Else6 → tie.Start
 behind-5 c = behind-4 (c .before)
 
 -- ** Refusal 1
@@ -63,14 +69,27 @@ degree c = holds (c .before .is-degree .ensures) (c .if1 .left)
 small : (c : tie.Else1) → behind-1 c .args .n ≤ 1024
 small c = degree-range (behind-1 c .args .n) (degree c) .1
 
+-- ** Refusal 16
+
+from-16 : (c : tie.Else1) → From 16 (behind-1 c)
+unfolding from
+from-16 c = goes-on (from-1 (c .before)) (degree c)
+
+is-deviation-requires : tie.Need-is-deviation-requires
+is-deviation-requires c κs = search needs
+
+returns-2 : tie.Need-returns-2
+unfolding from
+returns-2 c = let test = c .before in leaves (from-16 (test .before)) (fails (test .is-deviation .ensures) (c .if2 .taken))
+
 -- ** Refusal 2
 
-from-2 : (c : tie.Else1) → From 2 (behind-1 c)
+from-2 : (c : tie.Else2) → From 2 (behind-16 c)
 unfolding from
-from-2 c = goes-on (from-1 (c .before)) (degree c)
+from-2 c = let test = c .before in goes-on (from-16 (test .before)) (holds (test .is-deviation .ensures) (c .if2 .left))
 
-mul-if2 : tie.Need-mul-if2
-mul-if2 c = omega (arith, small c)
+mul-if3 : tie.Need-mul-if3
+mul-if3 c = omega (arith, small (c .before .before))
 
 abbrev cdt-length : tie.Start → Bool
 cdt-length s = eqb (length (s .args .cdt .now)) 20
@@ -78,17 +97,17 @@ cdt-length s = eqb (length (s .args .cdt .now)) 20
 abbrev other-lengths : tie.Start → List Bool
 other-lengths s = eqb (length (s .args .polynomial .now)) 21 ∷ eqb (s .args .y) (2 * s .args .n) ∷ []
 
-returns-2 : tie.Need-returns-2
+returns-3 : tie.Need-returns-3
 unfolding from allHold orFails
-returns-2 c = let s = behind-1 (c .before) in leaves (from-2 (c .before)) (fails-then (one-fails (cdt-length s) (other-lengths s)) (c .if2 .taken))
+returns-3 c = let s = behind-16 (c .before) in leaves (from-2 (c .before)) (fails-then (one-fails (cdt-length s) (other-lengths s)) (c .if3 .taken))
 
-lengths : (c : tie.Else2) → allHold (cdt-length (behind-2 c)) (other-lengths (behind-2 c)) ≡ true
+lengths : (c : tie.Else3) → allHold (cdt-length (behind-2 c)) (other-lengths (behind-2 c)) ≡ true
 unfolding allHold orFails
-lengths c = let s = behind-2 c in holds-else (one-fails (cdt-length s) (other-lengths s)) (c .if2 .left)
+lengths c = let s = behind-2 c in holds-else (one-fails (cdt-length s) (other-lengths s)) (c .if3 .left)
 
 -- ** Refusal 3
 
-from-3 : (c : tie.Else2) → From 3 (behind-2 c)
+from-3 : (c : tie.Else3) → From 3 (behind-2 c)
 unfolding from allHold
 from-3 c = goes-on (from-2 (c .before)) (lengths c)
 
@@ -99,88 +118,88 @@ is-cdt-requires c κs = eqb-true _ 20 (both-true (cdt-length (behind-2 c)) _ (le
 is-polynomial-requires : tie.Need-is-polynomial-requires
 is-polynomial-requires c κs = search needs
 
-returns-3 : tie.Need-returns-3
+returns-4 : tie.Need-returns-4
 unfolding from
-returns-3 c = let cdt = c .before .before in leaves (from-3 (cdt .before)) (fails (cdt .is-cdt .ensures) (c .if3 .taken))
+returns-4 c = let cdt = c .before .before in leaves (from-3 (cdt .before)) (fails (cdt .is-cdt .ensures) (c .if4 .taken))
 
 -- ** Refusal 4
 
-from-4 : (c : tie.Else3) → From 4 (behind-3 c)
+from-4 : (c : tie.Else4) → From 4 (behind-3 c)
 unfolding from
-from-4 c = let cdt = c .before .before in goes-on (from-3 (cdt .before)) (holds (cdt .is-cdt .ensures) (c .if3 .left))
+from-4 c = let cdt = c .before .before in goes-on (from-3 (cdt .before)) (holds (cdt .is-cdt .ensures) (c .if4 .left))
 
-returns-4 : tie.Need-returns-4
+returns-5 : tie.Need-returns-5
 unfolding from
-returns-4 c = leaves (from-4 (c .before)) (fails (c .before .before .is-polynomial .ensures) (c .if4 .taken))
+returns-5 c = leaves (from-4 (c .before)) (fails (c .before .before .is-polynomial .ensures) (c .if5 .taken))
 
 -- ** Refusal 5
 
-from-5 : (c : tie.Else4) → From 5 (behind-4 c)
+from-5 : (c : tie.Else5) → From 5 (behind-4 c)
 unfolding from
-from-5 c = goes-on (from-4 (c .before)) (holds (c .before .before .is-polynomial .ensures) (c .if4 .left))
+from-5 c = goes-on (from-4 (c .before)) (holds (c .before .before .is-polynomial .ensures) (c .if5 .left))
 
-small-4 : (c : tie.Else4) → behind-4 c .args .n ≤ 1024
-small-4 c = small (c .before .before .before .before .before)
+small-4 : (c : tie.Else5) → behind-4 c .args .n ≤ 1024
+small-4 c = small (degree-tested (c .before .before .before .before))
 
-mul-if5 : tie.Need-mul-if5
-mul-if5 c = omega (arith, small-4 c)
+mul-if6 : tie.Need-mul-if6
+mul-if6 c = omega (arith, small-4 c)
 
-mul-if5-2 : tie.Need-mul-if5-2
-mul-if5-2 c = omega (arith, small-4 c)
+mul-if6-2 : tie.Need-mul-if6-2
+mul-if6-2 c = omega (arith, small-4 c)
 
 limit-fails : (n limit : ℕ) → (ltb limit (2 * n) || ltb (32 * n) limit) ≡ not (leb (2 * n) limit && leb limit (32 * n))
 unfolding allHold orFails
 limit-fails n limit = rw (below-not-above limit (2 * n), below-not-above (32 * n) limit) (one-fails (leb (2 * n) limit) (leb limit (32 * n) ∷ []))
 
-returns-5 : tie.Need-returns-5
+returns-6 : tie.Need-returns-6
 unfolding from
-returns-5 c = let a = behind-4 (c .before) .args in leaves (from-5 (c .before)) (fails-then (limit-fails (a .n) (a .limit)) (c .if5 .taken))
+returns-6 c = let a = behind-4 (c .before) .args in leaves (from-5 (c .before)) (fails-then (limit-fails (a .n) (a .limit)) (c .if6 .taken))
 
-limit-fits : (c : tie.Else5) → let a = behind-5 c .args in (leb (2 * a .n) (a .limit) && leb (a .limit) (32 * a .n)) ≡ true
-limit-fits c = let a = behind-5 c .args in holds-else (limit-fails (a .n) (a .limit)) (c .if5 .left)
+limit-fits : (c : tie.Else6) → let a = behind-5 c .args in (leb (2 * a .n) (a .limit) && leb (a .limit) (32 * a .n)) ≡ true
+limit-fits c = let a = behind-5 c .args in holds-else (limit-fails (a .n) (a .limit)) (c .if6 .left)
 
-limit-small : (c : tie.Else5) → behind-5 c .args .limit ≤ 32768
+limit-small : (c : tie.Else6) → behind-5 c .args .limit ≤ 32768
 limit-small c =
     let a = behind-5 c .args in
     omega (arith, small-4 (c .before), leb-true (a .limit) (32 * a .n) (both-true (leb (2 * a .n) (a .limit)) _ (limit-fits c) .1))
 
 -- ** Refusal 7
 
-from-7 : (c : tie.Else5) → From 7 (behind-5 c)
+from-7 : (c : tie.Else6) → From 7 (behind-5 c)
 unfolding from
 from-7 c = goes-on (from-5 (c .before)) (limit-fits c)
 
-mul-if6 : tie.Need-mul-if6
-mul-if6 c = omega (arith, limit-small c)
-
-returns-6 : tie.Need-returns-6
-unfolding from
-returns-6 c = leaves (from-7 (c .before)) (lt-leb _ _ (c .if6 .taken))
-
--- ** Refusal 8
-
-from-8 : (c : tie.Else6) → From 8 (behind-5 (c .before))
-unfolding from
-from-8 c = goes-on (from-7 (c .before)) (le-leb _ _ (c .if6 .left))
-
 mul-if7 : tie.Need-mul-if7
-mul-if7 c = omega (arith, limit-small (c .before))
-
-add-if7 : tie.Need-add-if7
-add-if7 c = omega (arith, limit-small (c .before))
+mul-if7 c = omega (arith, limit-small c)
 
 returns-7 : tie.Need-returns-7
 unfolding from
-returns-7 c = leaves (from-8 (c .before)) (lt-leb _ _ (c .if7 .taken))
+returns-7 c = leaves (from-7 (c .before)) (lt-leb _ _ (c .if7 .taken))
+
+-- ** Refusal 8
+
+from-8 : (c : tie.Else7) → From 8 (behind-5 (c .before))
+unfolding from
+from-8 c = goes-on (from-7 (c .before)) (le-leb _ _ (c .if7 .left))
+
+mul-if8 : tie.Need-mul-if8
+mul-if8 c = omega (arith, limit-small (c .before))
+
+add-if8 : tie.Need-add-if8
+add-if8 c = omega (arith, limit-small (c .before))
+
+returns-8 : tie.Need-returns-8
+unfolding from
+returns-8 c = leaves (from-8 (c .before)) (lt-leb _ _ (c .if8 .taken))
 
 -- ** Served
 
-returns-8 : tie.Need-returns-8
+returns-9 : tie.Need-returns-9
 unfolding from firstRefusal
-returns-8 c = sym (goes-on (from-8 (c .before)) (le-leb _ _ (c .if7 .left)) .told)
+returns-9 c = sym (goes-on (from-8 (c .before)) (le-leb _ _ (c .if8 .left)) .told)
 
 pub draw-refusal-spec : {M : Type 1} → statement M
 draw-refusal-spec =
     tie.close
-    (tie.spec is-degree-requires returns mul-if2 returns-2 is-cdt-requires is-polynomial-requires returns-3 returns-4 mul-if5 mul-if5-2
-    returns-5 mul-if6 returns-6 mul-if7 add-if7 returns-7 returns-8)
+    (tie.spec is-degree-requires returns is-deviation-requires returns-2 mul-if3 returns-3 is-cdt-requires is-polynomial-requires returns-4 returns-5 mul-if6 mul-if6-2
+    returns-6 mul-if7 returns-7 mul-if8 add-if8 returns-8 returns-9)

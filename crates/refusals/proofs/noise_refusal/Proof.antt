@@ -1,6 +1,6 @@
 -- `refusals::noise_refusal` meets its contract: of two joined tests that fail, the first that does. Assumes nothing.
 use borrow.Author.Needs.{needs}
-use borrow.Author.Tests.{not-true, not-false}
+use borrow.Author.Tests.{eq-eqb, ne-eqb}
 use mathlib.Core.Path.{_≡_, refl}
 use mathlib.Core.Bool.{Bool, true, false, _&&_}
 use mathlib.Core.List.{[], _∷_}
@@ -32,7 +32,7 @@ number-small false = omega arith
 
 returns : tie.Need-returns
 unfolding noiseRefusal firstRefusal
-returns c = rw (not-true (c .before .args .drawn) (c .if1 .taken))
+returns c = rw (ne-eqb (c .before .args .drawn) 1 (c .if1 .taken))
 
 -- ** Refusals 10 and 11
 
@@ -46,7 +46,7 @@ all-within-requires-2 c κs = search needs
 drawn-then : (c : tie.After-all-within2) → let a = c .before .before .before .args in
     noiseRefusal (a .drawn) (a .key .now) (a .y .now) ≡ firstRefusal (line 10 (c .before .all-within .result) ∷ line 11 (c .all-within2 .result) ∷ [])
 unfolding noiseRefusal firstRefusal
-drawn-then c = rw (c .before .all-within .ensures, c .all-within2 .ensures, not-false (c .before .before .before .args .drawn) (c .before .before .if1 .left))
+drawn-then c = rw (c .before .all-within .ensures, c .all-within2 .ensures, eq-eqb (c .before .before .before .args .drawn) 1 (c .before .before .if1 .left))
 
 returns-2 : tie.Need-returns-2
 returns-2 c = rw (drawn-then (c .before)) (both-small (c .before .before .all-within .result) (c .before .all-within2 .result) (c .if2 .taken))

@@ -4,10 +4,9 @@ use borrow.Author.Tests.{eq-eqb, ne-eqb}
 use mathlib.Core.Path.{_≡_, sym, _∙_}
 use Prim.Native.Nat.{ℕ, _*_}
 use native.Mathlib.Omega.{arith}
-use lib.Dec.{lit<}
 use Rattle.checks.proofs.Degrees.{degree-range}
-use Rattle.exponential.specs.Exponential.{expScaled}
-use Rattle.exponential.proofs.Table.{by-215}
+use Rattle.exponential.specs.Exponential.{reciprocal, expScaled, expWith, divisorAt}
+use Rattle.deviations.proofs.Deviations.{scales-at}
 use Rattle.sampler.specs.Draw.{drawBits, Sampled, sampledBy}
 use Rattle.session.specs.declared.Session.{Session}
 use Rattle.session.specs.declared.Drawn.{Drawn}
@@ -22,8 +21,11 @@ use Rattle.session.proofs.Session.draw.Tie as tie
 abbrev start : tie.After-draw-refusal → tie.Start
 start c = c .before .before .before .before .before
 
+abbrev looked-up : tie.After-draw-arg2 → tie.After-reciprocal-at
+looked-up c = c .before .before
+
 abbrev not-refused : tie.After-draw-arg2 → tie.Else1
-not-refused c = c .before .before
+not-refused c = looked-up c .before
 
 abbrev sampled : tie.After-slice-known2 → tie.After-draw
 sampled c = c .before .before .before
@@ -66,11 +68,19 @@ served c = sym (refusal-is (c .before)) ∙ c .if1 .left
 passed : (c : tie.Else1) → DrawPassed (session (c .before)) (call (c .before))
 passed c = draw-passed (session (c .before)) (call (c .before)) (draw-left (session (c .before)) (call (c .before)) .number-is ∙ served c)
 
+reciprocal-at-requires : tie.Need-reciprocal-at-requires
+reciprocal-at-requires c κs = passed c .has-deviation
+
 draw-requires : tie.Need-draw-requires
 draw-requires c κs =
     let k = passed (not-refused c) in
     let n = degree-range _ (k .degree) .1 in (
-      record { twenty = k .twenty; small = k .small; is-polynomial = k .is-polynomial; scales = lit< tt },
+      record {
+        twenty = k .twenty;
+        small = k .small;
+        is-polynomial = k .is-polynomial;
+        scales = rw (looked-up c .reciprocal-at .ensures) (scales-at _ (k .has-deviation));
+      },
       (omega (arith, n), omega (arith, n, k .limit-high), k .words-enough, k .both, k .list-enough),
     )
 
@@ -83,19 +93,21 @@ same-length-2 c = search needs
 drawn-served-requires : tie.Need-drawn-served-requires
 drawn-served-requires c κs = degree-range _ (passed (not-refused (sampled c .before)) .degree) .1
 
-sampled-leaves : (s : Session) (d : Draw) (sampled : Sampled) (drawn : Drawn) → refusalOfDraw s d ≡ 0
+sampled-leaves : (s : Session) (d : Draw) (r : ℕ) (sampled : Sampled) (drawn : Drawn) → refusalOfDraw s d ≡ 0
     → drawn ≡ drawnServed s (sampled .counts)
     → sampled ≡ sampledBy (s .degree) (d .cdt) (d .words)
-    (drawBits (expScaled (d .polynomial) 3269134179596076729) (d .cdt) (d .words) (d .limit) (2 * s .degree)) (d .list)
+    (drawBits (expScaled (d .polynomial) r) (d .cdt) (d .words) (d .limit) (2 * s .degree)) (d .list)
+    → r ≡ reciprocal (divisorAt (s .deviation))
     → afterDraw drawn (sampled .y) (sampled .list) ≡ drawLeft s d
-unfolding drawLeft drawServed bitsOfDraw
-sampled-leaves s d sampled drawn h made e = rw (made, e, by-215 (d .polynomial), eq-eqb (refusalOfDraw s d) 0 h)
+unfolding drawLeft drawServed bitsOfDraw expWith
+sampled-leaves s d r sampled drawn h made e is-reciprocal = rw (made, e, is-reciprocal, eq-eqb (refusalOfDraw s d) 0 h)
 
 returns-2 : tie.Need-returns-2
 returns-2 c =
     let d = sampled (c .before) in
     let other = not-refused (d .before) in
-    sampled-leaves (session (other .before)) (call (other .before)) _ _ (served other) (c .drawn-served .ensures) (d .draw .ensures)
+    sampled-leaves (session (other .before)) (call (other .before)) _ _ _ (served other) (c .drawn-served .ensures) (d .draw .ensures)
+    (looked-up (d .before) .reciprocal-at .ensures)
 
 pub draw-spec : {M : Type 1} → statement M
-draw-spec = tie.close (tie.spec draw-refusal-requires drawn-refused-requires returns draw-requires drawn-served-requires same-length same-length-2 returns-2)
+draw-spec = tie.close (tie.spec draw-refusal-requires drawn-refused-requires returns reciprocal-at-requires draw-requires drawn-served-requires same-length same-length-2 returns-2)
