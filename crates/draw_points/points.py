@@ -1,9 +1,9 @@
-"""Writes the points of draws, worked out from document 01 with requests S-6 and S-7, and independently of the library.
+"""Writes the points of draws, worked out from document 01 with requests S-6, S-7 and S-8, and independently of the library.
 
 points.py stdin prints rows of 23 columns of 16 hexadecimal digits: a CDT table, a polynomial table, then the draws over them, whose number
 is the last column of the CDT table's row. points.py stdout prints the outcome of each draw: the refusal of the opening, the answer
-(refusal, attempts, accepted, entries), the next session (degree, drawn), y, and the read list (length, first and last entry of its filled
-part, and a sum over the whole of its memory). y is a part of nine values that start as fives, and the list a part of 5,940 entries that
+(refusal, attempts, accepted, entries), the next session (degree, deviation, drawn), y, and the read list (length, first and last entry of
+its filled part, and a sum over the whole of its memory). y is a part of nine values that start as fives, and the list a part of 5,940 entries that
 start as sevens.
 """
 import sys
@@ -12,13 +12,13 @@ from math import factorial
 
 ONE = 2**62
 POLYNOMIAL = [ONE // factorial(j) for j in range(21)]
-DIVISOR = 64 * 2 * 215**2
+DEVIATIONS = 107, 215, 250, 271
 DEGREES = [2**k for k in range(2, 11)]
 TOP_BITS = 3 * 2**62
 ALL_ONES = 2**64 - 1
 
 # Where the session of a draw comes from.
-OPENED, BEFORE, MADE, MADE_DRAWN = range(4)
+OPENED, BEFORE, MADE = range(3)
 
 # Ten high words, ten low words, and a word too many, for a table that is too long.
 KNOWN = [i * 2**40 for i in range(1, 11)] + [0] * 10 + [0]
@@ -54,13 +54,14 @@ def asked(limit):
 assert (asked(8), asked(128)) == (370, 5890)
 
 
-def row(n=4, limit=8, origin=OPENED, cdt=KNOWN, polynomial=POLYNOMIAL + [0], words=CLIMBING, lent=None):
-    """A draw: its origin, degree, limit and tables, its words, and the lengths lent of the tables, the words, y and the list."""
-    return origin, n, limit, cdt, polynomial, words, lent or (20, 21, 4 * limit, 8, asked(limit))
+def row(n=4, limit=8, origin=OPENED, cdt=KNOWN, polynomial=POLYNOMIAL + [0], words=CLIMBING, lent=None, deviation=215, drawn=0):
+    """A draw: the session's origin, and its degree, deviation and drawn; the limit and tables, the words, and the lengths lent of the
+    tables, the words, y and the list."""
+    return (origin, n, deviation, drawn), limit, cdt, polynomial, words, lent or (20, 21, 4 * limit, 8, asked(limit))
 
 
-def known(*four):
-    return row(words=repeated(*four))
+def known(*four, deviation=215):
+    return row(words=repeated(*four), deviation=deviation)
 
 
 def equal_high(first, second):
@@ -77,9 +78,17 @@ def points():
         yield row(n)
     # A degree that no opening hands back.
     yield row(12, 24, MADE)
-    yield row(12, 24, MADE_DRAWN)
+    yield row(12, 24, MADE, drawn=1)
     yield row(4, 8, MADE)
-    yield row(4, 7, MADE_DRAWN)
+    yield row(4, 7, MADE, drawn=1)
+    # Deviations, the numbers next to them, and numbers that agree with 215 in their low bits; asked for, and held by a session.
+    for deviation in (0, 106, *DEVIATIONS, 108, 214, 216, 251, 272, 2**32 + 215, 2**63 + 215, 2**64 - 1):
+        yield row(deviation=deviation)
+        yield row(origin=MADE, deviation=deviation)
+    # Whatever drawn is, a refused draw hands it back, and a served one does not look at it.
+    for drawn in (2, 256, 2**64 - 1):
+        yield row(4, 7, MADE, drawn=drawn)
+        yield row(4, 8, MADE, drawn=drawn, words=ALL_REJECTED)
 
     # L = 8 and L = 128, each with just the entries that it asks for, and with one less.
     yield lent(8, 20, 21, 32, 8, asked(8))
@@ -104,15 +113,17 @@ def points():
     yield lent(8, 20, 22, 32, 8, asked(8))
     yield lent(8, 20, 21, 32, 7, asked(8))
     yield lent(8, 20, 21, 32, 9, asked(8))
-    # Of two refusals the first is given: 2 before 5, 3 before 4, 4 before 5, 5 before 7 and 8, 7 before 8, 2 before all but 1, 1 before
-    # all.
+    # Of two refusals the first is given: 2 before 5, 3 before 4, 4 before 5, 5 before 7 and 8, 7 before 8, 2 before all but 1 and 16, 16
+    # before all but 1, 1 before all.
     yield lent(7, 19, 21, 32, 8, asked(8))
     yield row(cdt=changed(KNOWN, 10, ONE), polynomial=changed(POLYNOMIAL + [0], 19, 38))
     yield row(limit=7, polynomial=changed(POLYNOMIAL + [0], 19, 38))
     yield lent(129, 20, 21, 0, 8, 0)
     yield lent(8, 20, 21, 31, 8, asked(8) - 1)
     yield lent(8, 0, 0, 0, 0, 0)
-    yield row(12, 7, MADE, lent=(0, 0, 0, 0, 0))
+    yield row(4, 7, MADE, lent=(0, 0, 0, 0, 0), deviation=108)
+    yield row(12, 7, MADE, lent=(0, 0, 0, 0, 0), deviation=108)
+    yield row(12, deviation=108)
 
     # CDT words of 2^62 and more, and just below it.
     for place, word in ((0, ONE), (9, ONE), (10, ONE), (19, ONE), (19, ALL_ONES), (9, ONE - 1), (19, ONE - 1)):
@@ -170,14 +181,15 @@ def points():
     yield known(0, 0, 0, ALL_ONES)
     yield known(2**40, 0, 1, TOP_BITS + e(513) - 1)
     yield known(2**40, 0, 1, TOP_BITS + e(513))
-    # Word 3 just below e(N), and at it.
-    for first, third, n in ((0, 1, 1), (2**40, 1, 513), (ONE - 1, 255, 1370625)):
-        yield known(first, 0, third, e(n) - 1)
-        yield known(first, 0, third, e(n))
+    # Word 3 just below e(N), and at it, at each deviation. At 107 the last e(N) is 0.
+    for deviation in DEVIATIONS:
+        for first, third, n in ((0, 1, 1), (2**40, 1, 513), (ONE - 1, 255, 1370625)):
+            yield known(first, 0, third, (e(n, deviation) - 1) % ONE, deviation=deviation)
+            yield known(first, 0, third, e(n, deviation), deviation=deviation)
     # Word 3 at e(N) by document 01 alone, whose squarings cut and give less: it is accepted.
     for first, third, n in ((0, 1, 1), (2**40, 1, 513)):
-        assert e(n, 0) < e(n)
-        yield known(first, 0, third, e(n, 0))
+        assert e(n, added=0) < e(n)
+        yield known(first, 0, third, e(n, added=0))
 
     # Attempts 1, 4 and 7 are rejected by word 3, so that eleven are needed. b = 1, and x is the number of the attempt.
     for limit in (8, 10, 11, 12):
@@ -196,11 +208,17 @@ def points():
     yield row(origin=BEFORE, limit=7)
     yield row(origin=BEFORE, words=ALL_REJECTED)
     yield row(origin=BEFORE)
+    # So it does at another deviation: full, refused over drawn, spent over drawn, full over spent.
+    yield row(deviation=107)
+    yield row(origin=BEFORE, limit=7)
+    yield row(origin=BEFORE, words=ALL_REJECTED)
+    yield row(origin=BEFORE)
 
 
-def e(n, added=2**61):
+def e(n, deviation=215, added=2**61):
     """e(n) where each squaring adds this before its cut, as request S-7 has it."""
-    v = n * (2**84 // DIVISOR) // 2**22
+    d = 2 * deviation**2
+    v = n * (2**84 // (64 * d)) // 2**22
     a = POLYNOMIAL[20]
     for j in range(19, -1, -1):
         a = POLYNOMIAL[j] - a * v // ONE
@@ -213,10 +231,12 @@ def thresholds(cdt):
     return [high * ONE + low for high, low in zip(cdt[:10], cdt[10:])]
 
 
-def refusal(n, limit, cdt, polynomial, words, y, entries):
+def refusal(n, deviation, limit, cdt, polynomial, words, y, entries):
     """The number of the first row of the table of refusals that applies to a draw, or 0."""
     if n not in DEGREES:
         return 1
+    if deviation not in DEVIATIONS:
+        return 16
     if len(cdt) != 20 or len(polynomial) != 21 or len(y) != 2 * n:
         return 2
     if max(cdt) >= ONE or thresholds(cdt) != sorted(thresholds(cdt)):
@@ -232,14 +252,14 @@ def refusal(n, limit, cdt, polynomial, words, y, entries):
     return 0
 
 
-def attempt(cdt, four):
+def attempt(deviation, cdt, four):
     """The signed sample and the accept bit of four words."""
     d = four[0] % ONE * ONE + four[1] % ONE
     x = sum(threshold <= d for threshold in thresholds(cdt))
     b = four[2] % 256
     negative = four[2] // 256 % 2 == 1
     size = 256 * x + b
-    accepted = four[3] % ONE < e(b * (b + 512 * x)) and not (size == 0 and negative)
+    accepted = four[3] % ONE < e(b * (b + 512 * x), deviation) and not (size == 0 and negative)
     return -size if negative else size, accepted
 
 
@@ -249,8 +269,8 @@ def entry(kind, place):
 
 def draw(session, limit, cdt, polynomial, words, y, entries):
     """The answer, the next session, y and the entries of the read list."""
-    n, drawn = session
-    number = refusal(n, limit, cdt, polynomial, words, y, entries)
+    n, deviation, _ = session
+    number = refusal(n, deviation, limit, cdt, polynomial, words, y, entries)
     if number:
         return (number, 0, 0, 0), session, y, []
     samples, read, t = [], [entry(1, n)], 0
@@ -259,18 +279,22 @@ def draw(session, limit, cdt, polynomial, words, y, entries):
         read += [entry(3, i) for i in range(20)]
         read += [entry(4, j) for j in range(20, -1, -1)]
         read.append(entry(5, len(samples)))
-        sample, accepted = attempt(cdt, words[4 * t:4 * t + 4])
+        sample, accepted = attempt(deviation, cdt, words[4 * t:4 * t + 4])
         if accepted:
             samples.append(sample)
         t += 1
     read.append(entry(6, len(samples)))
     full = len(samples) == 2 * n
-    return (0, t, len(samples), len(read)), (n, int(full)), samples if full else [0] * (2 * n), read
+    return (0, t, len(samples), len(read)), (n, deviation, int(full)), samples if full else [0] * (2 * n), read
 
 
-def opened(n):
+def opened(n, deviation):
     """The refusal of an opening, and the session that it hands back."""
-    return (0, (n, 0)) if n in DEGREES else (1, (0, 0))
+    if n not in DEGREES:
+        return 1, (0, 0, 0)
+    if deviation not in DEVIATIONS:
+        return 16, (0, 0, 0)
+    return 0, (n, deviation, 0)
 
 
 def sum_of(memory):
@@ -280,9 +304,10 @@ def sum_of(memory):
     return total
 
 
-def outcome(before, origin, n, limit, cdt, polynomial, words, lent):
+def outcome(before, source, limit, cdt, polynomial, words, lent):
     """The line of a draw, and the next session."""
-    number, session = opened(n) if origin == OPENED else (0, before if origin == BEFORE else (n, origin - MADE))
+    origin, *made = source
+    number, session = opened(*made[:2]) if origin == OPENED else (0, before if origin == BEFORE else tuple(made))
     words = [(words[i % 4] + i // 4 * words[4 + i % 4]) % 2**64 for i in range(lent[2])]
     answer, session, y, read = draw(session, limit, cdt[:lent[0]], polynomial[:lent[1]], words, [5] * lent[3], lent[4])
     memory = read + [7] * (5940 - len(read))
@@ -297,17 +322,17 @@ def print_row(last, *values):
 
 
 def print_rows():
-    for (cdt, polynomial), block in groupby(points(), lambda point: point[3:5]):
+    for (cdt, polynomial), block in groupby(points(), lambda point: point[2:4]):
         block = list(block)
         print_row(len(block), *cdt)
         print_row(0, *polynomial)
-        for origin, n, limit, _, _, words, lent in block:
-            print_row(origin, n, limit, *words, *lent)
+        for (origin, n, deviation, drawn), limit, _, _, words, lent in block:
+            print_row(origin, n, limit, *words, *lent, deviation, drawn)
     print()
 
 
 def print_outcomes():
-    session = 0, 0
+    session = 0, 0, 0
     for point in points():
         line, session = outcome(session, *point)
         print(line)

@@ -1,7 +1,7 @@
 // Makes the draws that stdin has, one to a row, and prints the outcome of each, one to a line: the refusal of the opening; the answer
-// (refusal, attempts, accepted, entries); the next session (degree, drawn); y; and the read list (length, first and last entry of its
-// filled part, and a sum over the whole of the memory). y is a part of nine fives and the list a part of 5,940 sevens, so that what is not
-// written is seen. The files stdin and stdout beside src/ are written by points.py, another program.
+// (refusal, attempts, accepted, entries); the next session (degree, deviation, drawn); y; and the read list (length, first and last entry
+// of its filled part, and a sum over the whole of the memory). y is a part of nine fives and the list a part of 5,940 sevens, so that what
+// is not written is seen. The files stdin and stdout beside src/ are written by points.py, another program.
 ghost use mathlib.Core.Path.{_≡_};
 ghost use Prim.Native.Nat.{_^_, _≤_, _<_};
 ghost use lib.ListN.{length};
@@ -16,14 +16,12 @@ use session::Session;
 // table come draws over them, as many as the last column of the CDT table's row says.
 const COUNT: usize = 22;
 
-// Where the session of a draw comes from: an opening; the draw before; or no call: it is made of the degree, with nothing drawn or drawn.
+// Where the session of a draw comes from: an opening; the draw before; or no call: it is made of any three numbers.
 const ORIGIN: usize = 22;
 
 const OPENED: u64 = 0;
 
 const BEFORE: u64 = 1;
-
-const MADE_DRAWN: u64 = 3;
 
 // The other columns of a draw. Its words are four words, and each of them raised again and again.
 const DEGREE: usize = 0;
@@ -44,6 +42,11 @@ const WORDS_LENT: usize = 12;
 const Y_LENT: usize = 13;
 
 const LIST_LENT: usize = 14;
+
+// The deviation, and what drawn is in a session that is made.
+const DEVIATION: usize = 15;
+
+const DRAWN: usize = 16;
 
 fn number(n: u64) {
     io::write_all(STDOUT_FILENO, b" ");
@@ -112,7 +115,8 @@ fn show_answer(answer: DrawAnswer) {
 
 fn show_session(session: Session) {
     number(session.degree as u64);
-    number(session.drawn as u64);
+    number(session.deviation);
+    number(session.drawn);
     io::write_all(STDOUT_FILENO, b";");
 }
 
@@ -166,17 +170,19 @@ fn words_of(row: &[u64; 23]) -> [u64; 516]
 
 fn opening(row: &[u64; 23], before: Session) -> Opened {
     let degree = row[DEGREE] as usize;
+    let deviation = row[DEVIATION];
     match row[ORIGIN] {
-        OPENED => Session::open(degree),
+        OPENED => Session::open(degree, deviation),
         BEFORE => Opened {
             refusal: 0,
             session: before,
         },
-        origin => Opened {
+        _ => Opened {
             refusal: 0,
             session: Session {
                 degree,
-                drawn: origin == MADE_DRAWN,
+                deviation,
+                drawn: row[DRAWN],
             },
         },
     }
@@ -273,7 +279,8 @@ fn draws(count: u64, before: Session, cdt: &[u64], polynomial: &[u64]) -> Sessio
 fn main() {
     let mut session = Session {
         degree: 0,
-        drawn: false,
+        deviation: 0,
+        drawn: 0,
     };
     let mut left = u64::MAX;
     while left > 0 {

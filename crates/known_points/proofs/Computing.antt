@@ -5,13 +5,14 @@ use Rattle.signed.specs.Vectors.{allWithin, squareSum, innerProduct}
 use Rattle.checks.specs.Checks.{among, isDegree, allBelow, firstRefusal}
 use Rattle.exponential.specs.Exponential.{factorial, entriesFrom as polynomialFrom, polynomial, sameWords, isPolynomial}
 use Rattle.exponential.specs.Exponential.{reciprocal, scaled, evaluate, squared, squarings, expScaled, expWith, exp, expOrRefusal}
+use Rattle.deviations.specs.Deviations.{isDeviation, expAt}
 use Rattle.bits.specs.Bits.{digits, number, zeros, bitAt as bitOf, bytesFrom, packed}
 use Rattle.bits.specs.Items.{joined, given, stands, formIf, itemsOf, passes, itemsAt, behind, eachAt}
 use Rattle.largest.specs.Largest.{insert, falling, total, largestSum}
 use Rattle.base_sample.specs.BaseSample.{wordsSmall, neverFalls, isCdt, atOrBelow, baseSample}
 use Rattle.base_sample.specs.HighWordsFirst.{isCdtBefore, baseSampleBefore, firsts, seconds, reordered, inTurn, restored}
 use Rattle.known_points.specs.EvenThresholds.{stepsFrom, evenThresholds}
-use Rattle.known_points.specs.DefaultCdt.{cdt215}
+use Rattle.known_points.specs.DefaultCdt.{cdt107, cdt215, cdt250, cdt271}
 use Rattle.attempt.specs.Attempt.{accepts, sample, bitAt, sampleAt, attemptEntries}
 use Rattle.sampler.specs.Draw.{bitsFrom, drawBits, accepted, samplesFrom, drawY, entriesFrom, drawEntries, sampledBy}
 use Rattle.challenge.specs.Challenge.{positionsBelow, ascends, arePositions, isChallenge}
@@ -30,18 +31,18 @@ use Rattle.record_reader.specs.Call.{contentsOf, noContents, handedOver}
 use Rattle.key_check.specs.KeyCheck.{rotation, table, rowSum, finalSum, keyRefusal, keyAnswer}
 use Rattle.histories.specs.Histories.{leftBy, eventOf}
 
--- the polynomial table, the CDT table of the known points, and the one that hosts lend
+-- the polynomial table, the CDT table of the known points, and those that hosts lend
 unfoldable pub tables : Unit {0}
-unfolding polynomial polynomialFrom factorial evenThresholds stepsFrom cdt215
+unfolding polynomial polynomialFrom factorial evenThresholds stepsFrom cdt107 cdt215 cdt250 cdt271
 tables = tt
 
 unfoldable pub refusals : Unit {0}
-unfolding openRefusal drawRefusal drawRefusalBefore respondRefusal respondRefusalBefore noiseRefusal firstRefusal isDegree among
+unfolding openRefusal drawRefusal drawRefusalBefore respondRefusal respondRefusalBefore noiseRefusal firstRefusal isDegree isDeviation among
     isCdt isCdtBefore wordsSmall neverFalls allBelow isPolynomial sameWords isChallenge arePositions positionsBelow ascends allWithin
 refusals = tt
 
 unfoldable pub exponentials : Unit {0}
-unfolding exp expOrRefusal expWith expScaled reciprocal scaled evaluate squared squarings
+unfolding exp expAt expOrRefusal expWith expScaled reciprocal scaled evaluate squared squarings
 exponentials = tt
 
 -- bits and samples of attempts

@@ -16,8 +16,12 @@ draw-refusals = record {
   refusal-3-high = refl;
   refusal-3-falls = refl;
   equal-thresholds = refl;
+  refusal-16 = refl;
   draws-in-order = refl;
   served-8 = refl;
   served-128 = refl;
   refused-129 = refl;
+  served-107 = refl;
+  served-250 = refl;
+  served-271 = refl;
 }

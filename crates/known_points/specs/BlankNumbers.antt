@@ -24,7 +24,7 @@ use Rattle.known_points.specs.RecordNumbers.{refusalOf}
 -- what a respond to the empty challenge leaves after a full draw, with these words, a key of this value in every place, and this y
 abbrev pub blankAt : (n : ℕ) (words : List ℕ) (value : ℤ) (y : List ℤ) → RespondLeft
 blankAt n words value y = respondLeft
-    (record { degree = n; drawn = true })
+    (record { degree = n; deviation = 215; drawn = 1 })
     (respondOf [] polynomial words (replicate (2 * n) value) y (replicate (2 * n) (pos 9)) (replicate 48 9))
 
 -- the entries of a blank response with this bit
@@ -34,7 +34,10 @@ blankReads bit = entry 7 4 ∷ entry 2 0 ∷ entry 2 1 ∷ entry 2 2 ∷ (expone
 -- what a blank response leaves with this bit, which is this number, and this z: of the list the last entry is as it was
 abbrev pub answered : (bit : Bool) (number : ℕ) (z : List ℤ) → RespondLeft
 answered bit number z = record {
-  responded = record { answer = record { refusal = 0; bit = bit; entries = 47 }; session = record { degree = 4; drawn = false } };
+  responded = record {
+    answer = record { refusal = 0; bit = bit; entries = 47 };
+    session = record { degree = 4; deviation = 215; drawn = 0 };
+  };
   y = zeros;
   z = z;
   list = blankReads number ++ (9 ∷ []);
@@ -55,23 +58,23 @@ noise = pos 5 ∷ negsuc 2 ∷ pos 0 ∷ pos 2100 ∷ pos 2815 ∷ negsuc 2814 �
 pub record BlankNumbers : Type 0 where
   -- ** Refusals
   -- 47 entries are served, and 46 are refusal 8; by document 01 the empty challenge was refusal 6
-  pub served-47 : respondOf4 true [] zeros zeros 47 ≡ 0
-  pub refused-46 : respondOf4 true [] zeros zeros 46 ≡ 8
-  pub refused-before : respondRefusalBefore 4 true [] polynomial 3 zeros zeros 8 47 ≡ 6
+  pub served-47 : respondOf4 1 [] zeros zeros 47 ≡ 0
+  pub refused-46 : respondOf4 1 [] zeros zeros 46 ≡ 8
+  pub refused-before : respondRefusalBefore 4 215 1 [] polynomial 3 zeros zeros 8 47 ≡ 6
   -- the key is not used, and yet one of seven values, or with an 8 in it, is refused
-  pub key-of-7 : respondRefusal 4 true [] polynomial 3 (replicate 7 (pos 0)) zeros 8 47 ≡ 2
-  pub key-with-8 : respondOf4 true [] (withZeros (pos 8)) zeros 47 ≡ 10
+  pub key-of-7 : respondRefusal 4 215 1 [] polynomial 3 (replicate 7 (pos 0)) zeros 8 47 ≡ 2
+  pub key-with-8 : respondOf4 1 [] (withZeros (pos 8)) zeros 47 ≡ 10
   -- of several that apply, the first: each respond with what the later ones are refused for, and the last with nothing of it
   pub blanks-in-order :
-      respondRefusal 5 false [] [] 2 wrongKey wrongY 8 46
-      ∷ respondRefusal 4 false [] [] 2 wrongKey wrongY 8 46
-      ∷ respondRefusal 4 false [] (replicate 21 0) 2 wrongKey wrongY 8 46
-      ∷ respondRefusal 4 false [] polynomial 2 wrongKey wrongY 8 46
-      ∷ respondOf4 false [] wrongKey wrongY 46
-      ∷ respondOf4 false [] wrongKey wrongY 47
-      ∷ respondOf4 true [] wrongKey wrongY 47
-      ∷ respondOf4 true [] zeros wrongY 47
-      ∷ respondOf4 true [] zeros zeros 47
+      respondRefusal 5 215 0 [] [] 2 wrongKey wrongY 8 46
+      ∷ respondRefusal 4 215 0 [] [] 2 wrongKey wrongY 8 46
+      ∷ respondRefusal 4 215 0 [] (replicate 21 0) 2 wrongKey wrongY 8 46
+      ∷ respondRefusal 4 215 0 [] polynomial 2 wrongKey wrongY 8 46
+      ∷ respondOf4 0 [] wrongKey wrongY 46
+      ∷ respondOf4 0 [] wrongKey wrongY 47
+      ∷ respondOf4 1 [] wrongKey wrongY 47
+      ∷ respondOf4 1 [] zeros wrongY 47
+      ∷ respondOf4 1 [] zeros zeros 47
       ∷ []
       ≡ 1 ∷ 2 ∷ 4 ∷ 7 ∷ 8 ∷ 9 ∷ 10 ∷ 11 ∷ 0 ∷ []
   --

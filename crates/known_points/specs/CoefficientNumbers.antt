@@ -35,12 +35,15 @@ respondOver y = record {
 
 -- what it leaves after a full draw
 abbrev pub leftOver : (y : List ℤ) → RespondLeft
-leftOver y = respondLeft (record { degree = 4; drawn = true }) (respondOver y)
+leftOver y = respondLeft (record { degree = 4; deviation = 215; drawn = 1 }) (respondOver y)
 
 -- what such a respond leaves with this bit and z
 abbrev pub answeredWith : (bit : Bool) (z : List ℤ) → RespondLeft
 answeredWith bit z = record {
-  responded = record { answer = record { refusal = 0; bit = bit; entries = 55 }; session = record { degree = 4; drawn = false } };
+  responded = record {
+    answer = record { refusal = 0; bit = bit; entries = 55 };
+    session = record { degree = 4; deviation = 215; drawn = 0 };
+  };
   y = replicate 8 (pos 0);
   z = z;
   list = respondEntries 4 bit (1 ∷ []);

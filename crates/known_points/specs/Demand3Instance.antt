@@ -1,9 +1,10 @@
 -- Demand 3 at degree 4: two lists of calls that are lent different words at places that are not read, two with blank responds and keys that
--- agree nowhere, one with refused calls among them, one with another history, and lists of any number of calls. Assumes nothing.
+-- agree nowhere, one with refused calls among them, one with another history, and lists of any number of calls; two lists at deviation 107,
+-- and two that differ in nothing but their deviations. Assumes nothing.
 use mathlib.Core.Path.{_≡_}
 use mathlib.Core.Bool.{Bool, true, false}
 use mathlib.Core.List.{List, [], _∷_, _++_}
-use Prim.Native.Nat.{ℕ, zero, suc, _<_}
+use Prim.Native.Nat.{ℕ, zero, suc, _^_, _<_}
 use lib.IntN.{ℤ, pos, negsuc}
 use lib.ListN.{take, replicate, getD}
 use Rattle.exponential.specs.Exponential.{polynomial}
@@ -96,48 +97,78 @@ refusedDraw = drawOver [] (pos 3 ∷ []) []
 unfoldable pub callsRefused : List Call
 callsRefused = draw (drawing 0 (pos 0) 0) ∷ draw refusedDraw ∷ respond refusedRespond ∷ respond (responding 0 (pos 0) 0) ∷ []
 
+-- a draw alone, with these words that are not read, this y before it, and this list
+unfoldable pub callsDrawing : (unread : ℕ) (before : ℤ) (filler : ℕ) → List Call
+callsDrawing unread before filler = draw (drawing unread before filler) ∷ []
+
+-- a draw whose first attempt, with N = 513, has a u between e(N) at 107 and at 271
+unfoldable pub between : Draw
+between = drawOver (2 ^ 40 ∷ 0 ∷ 1 ∷ 4550000000000000000 ∷ (wordsOf 1 8 ++ replicate 28 0)) (replicate 8 (pos 0)) (replicate 738 0)
+
+unfoldable pub callsBetween : List Call
+callsBetween = draw between ∷ []
+
 -- so many times a draw and a respond, over the zeros that a respond leaves
 unfoldable pub rounds : (unread filler count : ℕ) → List Call
 rounds unread filler zero = []
 rounds unread filler (suc count) = callsOver unread (pos 0) filler ++ rounds unread filler count
 
--- the session of degree 4, just opened
+-- the session of degree 4 and this deviation, just opened
+abbrev pub startAt : (deviation : ℕ) → Session
+startAt deviation = opened 4 deviation .session
+
 abbrev pub start : Session
-start = opened 4 .session
+start = startAt 215
 
 -- the history of a full draw with these bits, and of an accepted response
 abbrev pub drawnAndAnswered : (bits : List Bool) → List Event
 drawnAndAnswered bits = drew 4 bits ∷ answered 4 true (0 ∷ 2 ∷ []) ∷ []
 
 -- what the caller sees of the draw: full after eight attempts, and y
-abbrev pub drawnOneToEight : Seen
-drawnOneToEight = sampled
-    (record { answer = record { refusal = 0; attempts = 8; accepted = 8; entries = 370 }; session = record { degree = 4; drawn = true } })
+abbrev pub drawnOneToEightAt : (deviation : ℕ) → Seen
+drawnOneToEightAt deviation = sampled
+    (record {
+      answer = record { refusal = 0; attempts = 8; accepted = 8; entries = 370 };
+      session = record { degree = 4; deviation = deviation; drawn = 1 };
+    })
     oneToEight
+
+abbrev pub drawnOneToEight : Seen
+drawnOneToEight = drawnOneToEightAt 215
 
 -- of a draw over a drawn y that is refused by 2: y is drawn still
 abbrev pub drawRefusedBy2 : Seen
 drawRefusedBy2 = sampled
-    (record { answer = record { refusal = 2; attempts = 0; accepted = 0; entries = 0 }; session = record { degree = 4; drawn = true } })
+    (record {
+      answer = record { refusal = 2; attempts = 0; accepted = 0; entries = 0 };
+      session = record { degree = 4; deviation = 215; drawn = 1 };
+    })
     (pos 3 ∷ [])
 
 -- of a respond that is
 abbrev pub respondRefusedBy2 : Seen
 respondRefusedBy2 = answer
-    (record { answer = record { refusal = 2; bit = false; entries = 0 }; session = record { degree = 4; drawn = true } })
+    (record { answer = record { refusal = 2; bit = false; entries = 0 }; session = record { degree = 4; deviation = 215; drawn = 1 } })
     (pos 3 ∷ []) []
 
 -- and of a respond with so many entries: its bit is 1, y is all zero, and z
 abbrev pub answeredBy : (entries : ℕ) (z : List ℤ) → Seen
 answeredBy entries z = answer
-    (record { answer = record { refusal = 0; bit = true; entries = entries }; session = record { degree = 4; drawn = false } })
+    (record {
+      answer = record { refusal = 0; bit = true; entries = entries };
+      session = record { degree = 4; deviation = 215; drawn = 0 };
+    })
     (replicate 8 (pos 0)) z
 
 -- ** What demand 3 says of them
 
--- two lists of calls meet all that the second half asks for, from a y of eight times this value and a y′ of eight times that
+-- two lists of calls from these sessions meet all that the second half asks for but for what it asks of the sessions, from a y of eight
+-- times this value and a y′ of eight times that
+abbrev pub MeetFrom : (s s′ : Session) (before before′ : ℤ) (calls calls′ : List Call) → Type 0
+MeetFrom s s′ before before′ calls calls′ = Premises s s′ (replicate 8 before) (replicate 8 before′) calls calls′
+
 abbrev pub Meet : (before before′ : ℤ) (calls calls′ : List Call) → Type 0
-Meet before before′ calls calls′ = Premises start start (replicate 8 before) (replicate 8 before′) calls calls′
+Meet = MeetFrom start start
 
 pub record Demand3Instance : Type 0 where
   -- the first two lists meet all that the second half asks for
@@ -174,3 +205,15 @@ pub record Demand3Instance : Type 0 where
   pub reads-differ : readList start calls ≡ readList start callsRejecting → ⊥
   -- so do lists of any number of calls
   pub any-number : (count : ℕ) → Meet (pos 0) (pos 0) (rounds 0 0 count) (rounds 7 9 count)
+  -- at deviation 107 two draws that are lent different words at places that are not read meet it, and give the same
+  pub premises-107 : MeetFrom (startAt 107) (startAt 107) (pos 0) (pos 1) (callsDrawing 0 (pos 0) 0) (callsDrawing 7 (pos 1) 9)
+  pub seen-same-107 : seen (startAt 107) (callsDrawing 0 (pos 0) 0) ≡ seen (startAt 107) (callsDrawing 7 (pos 1) 9)
+  pub seen-is-107 : seen (startAt 107) (callsDrawing 0 (pos 0) 0) ≡ drawnOneToEightAt 107 ∷ []
+  -- a history does not hold the deviation: at 107 and at 271 the draw has the same bits, and so by the first half the same read list
+  pub history-same : history (startAt 107) (callsDrawing 0 (pos 0) 0) ≡ history (startAt 271) (callsDrawing 0 (pos 0) 0)
+  pub reads-same-over : readList (startAt 107) (callsDrawing 0 (pos 0) 0) ≡ readList (startAt 271) (callsDrawing 0 (pos 0) 0)
+  -- equal deviations are asked for: one and the same draw at 107 and at 271 meets all else, and its first attempt is accepted at 271 alone
+  pub premises-between : MeetFrom (startAt 107) (startAt 271) (pos 0) (pos 0) callsBetween callsBetween
+  pub history-at-107 : history (startAt 107) callsBetween ≡ drew 4 (false ∷ replicate 8 true) ∷ []
+  pub history-at-271 : history (startAt 271) callsBetween ≡ drew 4 (replicate 8 true) ∷ []
+  pub reads-differ-between : readList (startAt 107) callsBetween ≡ readList (startAt 271) callsBetween → ⊥

@@ -2,6 +2,7 @@ pub mod EvenThresholds
 pub mod KnownPoints
 pub mod ExponentialNumbers
 pub mod RoundingNumbers
+pub mod DeviationNumbers
 pub mod SampleNumbers
 pub mod RespondNumbers
 pub mod CoefficientNumbers

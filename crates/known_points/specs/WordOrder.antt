@@ -26,15 +26,15 @@ pub record WordOrder : Type 0 where
   -- ** Document 01's order is refused
   -- the table of its known points, whose reordering is the table of ours
   pub even-reordered : reordered evenBefore ≡ evenThresholds
-  pub even-served-before : drawRefusalBefore 4 8 evenBefore polynomial 32 8 370 ≡ 0
-  pub even-refused : drawRefusal 4 8 evenBefore polynomial 32 8 370 ≡ 3
+  pub even-served-before : drawRefusalBefore 4 215 8 evenBefore polynomial 32 8 370 ≡ 0
+  pub even-refused : drawRefusal 4 215 8 evenBefore polynomial 32 8 370 ≡ 3
   -- the table that hosts lend
-  pub default-served-before : drawRefusalBefore 4 8 (restored cdt215) polynomial 32 8 370 ≡ 0
-  pub default-refused : drawRefusal 4 8 (restored cdt215) polynomial 32 8 370 ≡ 3
+  pub default-served-before : drawRefusalBefore 4 215 8 (restored cdt215) polynomial 32 8 370 ≡ 0
+  pub default-refused : drawRefusal 4 215 8 (restored cdt215) polynomial 32 8 370 ≡ 3
   --
   -- ** But for tables that never fall in both orders
-  pub both-served-before : drawRefusalBefore 4 8 upTo19 polynomial 32 8 370 ≡ 0
-  pub both-served : drawRefusal 4 8 upTo19 polynomial 32 8 370 ≡ 0
+  pub both-served-before : drawRefusalBefore 4 215 8 upTo19 polynomial 32 8 370 ≡ 0
+  pub both-served : drawRefusal 4 215 8 upTo19 polynomial 32 8 370 ≡ 0
   -- they have other thresholds, and other base samples
   pub base-sample-before : baseSampleBefore upTo19 (5 * 2 ^ 62) ≡ 3
   pub base-sample-now : baseSample upTo19 (5 * 2 ^ 62) ≡ 5
