@@ -19,8 +19,8 @@ pub struct Program {
 const ABOUT: &str = "\
 The BLISS-I sampling box from the command line
 
-Draws the noise of BLISS-I signatures from random words, and turns noise, key and challenge into a response or a rejection. \
-Tells whether a key can always sign, and stores signatures.";
+Draws the noise of BLISS signatures from random words, and turns noise, key and challenge into a response of BLISS-I or a \
+rejection. Tells whether a key can always sign, and stores signatures.";
 
 /// What the help of a command says last that reads files.
 pub const SEE_FILES: &str = "bliss-box --help says what files hold, and what each exit status means.";

@@ -12,6 +12,8 @@ use natural::Natural;
 /// Threshold i is the nearest whole number to 2^124 times the chance that the base sample is below i, where j has the weight
 /// exp(-65536 j² / (2 × deviation²)), j = 0 to 10. A threshold of 2^124 itself is one less: a table can't hold it.
 ///
+/// Those of the box's deviations need not be worked out: [`Deviation::cdt`](crate::Deviation::cdt) has them.
+///
 /// ```
 /// use bliss_box::{cdt, CDT};
 ///
@@ -109,12 +111,7 @@ fn nearest(part: Natural, whole: Natural) -> u128 {
 #[cfg(test)]
 mod tests {
     use super::*;
-    use crate::{thresholds, CDT};
-
-    #[test]
-    fn the_default_table_is_that_of_deviation_215() {
-        assert_eq!(cdt(215), Some(CDT));
-    }
+    use crate::thresholds;
 
     #[test]
     fn other_deviations_have_no_table() {

@@ -2,7 +2,7 @@
 
 use crate::fault::check_list;
 use crate::refusal::served;
-use crate::{filled, raw, Fault, Kind, Refusal, Session};
+use crate::{filled, raw, Deviation, Fault, Kind, Refusal, Session};
 
 /// The samples that a draw makes at degree `n`: the length of y, and of z and the key.
 #[must_use]
@@ -10,10 +10,14 @@ pub const fn sample_count(n: usize) -> usize {
     2 * n
 }
 
-/// A limit for draws by [`CDT`](crate::CDT) at degree `n`: so many attempts are spent with a chance of at most 2^-64.
+/// A limit for draws by the [CDT table of a deviation](Deviation::cdt) at degree `n`: so many attempts are spent with a chance of at
+/// most 2^-64. At 107 more attempts are rejected than at the others.
 #[must_use]
-pub const fn draw_limit(n: usize) -> usize {
-    4 * n + 56
+pub const fn draw_limit(n: usize, deviation: Deviation) -> usize {
+    match deviation {
+        Deviation::D107 => 6 * n + 88,
+        Deviation::D215 | Deviation::D250 | Deviation::D271 => 4 * n + 56,
+    }
 }
 
 /// The words that a draw of at most `limit` attempts must be lent.
@@ -55,18 +59,20 @@ impl Session {
     /// Full: `y` holds the samples in order of acceptance. Spent, which is after `limit` attempts with fewer than 2n samples:
     /// `y` is all zero. The rest of `list` is unchanged. A refused draw changes neither `y` nor `list`.
     ///
-    /// With [`CDT`](crate::CDT) an attempt is accepted with a chance of 0.678; [`draw_limit`] gives a limit that is all but never
-    /// spent.
+    /// The CDT is that of the session's deviation ([`Deviation::cdt`]). With it an attempt is accepted with a chance of 0.496 at
+    /// 107, 0.678 at 215, 0.710 at 250 and 0.726 at 271; [`draw_limit`] gives a limit that is all but never spent.
     ///
     /// ```
-    /// use bliss_box::{draw_limit, draw_list_length, draw_word_count, sample_count, Secret, Session, CDT, POLYNOMIAL};
+    /// use bliss_box::{draw_limit, draw_list_length, draw_word_count, sample_count, Deviation, Secret, Session, POLYNOMIAL};
     ///
-    /// let limit = draw_limit(512);
+    /// let deviation = Deviation::D215;
+    /// let limit = draw_limit(512, deviation);
     /// let words = Secret::system_words(draw_word_count(limit))?; // used for this draw alone
     /// let mut y = Secret::zeroed(sample_count(512));
     /// let mut list = vec![0; draw_list_length(limit)];
     ///
-    /// let drawn = Session::open(512)?.draw(limit, &CDT, &POLYNOMIAL, &words, &mut y, &mut list);
+    /// let session = Session::open(512, deviation)?;
+    /// let drawn = session.draw(limit, deviation.cdt(), &POLYNOMIAL, &words, &mut y, &mut list);
     /// drawn.answer?.check(512, &y, &list)?; // faults
     /// # assert!(drawn.session.is_drawn());
     /// # Ok::<(), Box<dyn std::error::Error>>(())

@@ -2,7 +2,7 @@
 
 use crate::{raw, Refusal};
 
-/// e(n), near exp(-n / 92450), in units of 2^-62.
+/// e(n) at deviation 215, near exp(-n / 92450), in units of 2^-62.
 ///
 /// # Errors
 ///

@@ -1,23 +1,25 @@
 //! The BLISS-I sampling box for a Rust host. It draws the noise vector y of a signature from random words that the host
 //! supplies, turns y, a key and a challenge into a response or a rejection, and lists what it reads of words, tables and key
 //! after its checks. Before a key goes into a box, it tells whether the key can always sign; and it stores signatures as bytes
-//! ([`Record`]). For bench work it hands the noise itself back ([`Noise::respond_blank`]). Documents 01 and 02 are the definition of
-//! the box; docs/SPECIFICATION.md has its rules, and what is listed.
+//! ([`Record`]). For bench work it hands the noise itself back ([`Noise::respond_blank`]). Noise is drawn with one of four deviations
+//! ([`Deviation`]); responses are BLISS-I's, with noise of 215. Documents 01 and 02 are the definition of the box;
+//! docs/SPECIFICATION.md has its rules, and what is listed.
 //!
 //! ```
-//! use bliss_box::{check_key, draw_limit, draw_word_count, OwnedDraw, Record, Secret, Session};
-//! use bliss_box::{CDT, POLYNOMIAL, RESPOND_WORDS};
+//! use bliss_box::{check_key, draw_limit, draw_word_count, Deviation, OwnedDraw, Record, Secret, Session};
+//! use bliss_box::{POLYNOMIAL, RESPOND_WORDS};
 //!
 //! // Making keys and challenges is the host's. A key is s1 and then s2, a challenge its positions in ascending order.
 //! let key = Secret::from(vec![1; 1024]);
 //! let challenge = [3, 141, 500];
 //! check_key(512, &key, challenge.len())?; // once, before its first response: a key that is refused goes into no box
 //!
-//! let limit = draw_limit(512);
-//! let mut session = Session::open(512)?;
+//! let deviation = Deviation::D215; // BLISS-I's
+//! let limit = draw_limit(512, deviation);
+//! let mut session = Session::open(512, deviation)?;
 //! let z = loop {
 //!     let words = Secret::system_words(draw_word_count(limit))?;
-//!     let noise = match session.draw_owned(limit, &CDT, &POLYNOMIAL, words)? {
+//!     let noise = match session.draw_owned(limit, deviation.cdt(), &POLYNOMIAL, words)? {
 //!         OwnedDraw::Full(noise) => noise,
 //!         OwnedDraw::Spent(spent) => {
 //!             session = spent.session; // all but never
@@ -59,6 +61,7 @@ extern crate alloc;
 extern crate std;
 
 mod cdt;
+mod deviation;
 mod draw;
 mod exponential;
 mod fault;
@@ -75,6 +78,7 @@ mod tables;
 mod version;
 
 pub use cdt::cdt;
+pub use deviation::Deviation;
 pub use draw::{draw_limit, draw_list_length, draw_word_count, sample_count, Counts, Drawn};
 pub use exponential::exponential;
 pub use fault::Fault;

@@ -61,6 +61,8 @@ refusals! {
     13 KeySum: "the final sum of the key check is above 46225",
     14 Output: "the output is too short for the record, or for one of its fields",
     15 Record: "a value to be recorded is outside -3263 to 3263, or the bytes are no record",
+    16 Deviation: "the deviation is not 107, 215, 250 or 271",
+    17 ResponseDeviation: "a response is made at deviation 215 alone",
 }
 
 impl fmt::Display for Refusal {
@@ -83,7 +85,7 @@ mod tests {
         for number in (1..100).chain([u32::MAX]) {
             let refusal = served(number).unwrap_err();
             assert_eq!(refusal.number(), number);
-            assert_eq!(refusal == Refusal::Unknown(number), number > 15, "{number}");
+            assert_eq!(refusal == Refusal::Unknown(number), number > 17, "{number}");
             assert!(refusal.to_string().starts_with(&format!("refusal {number}: ")));
         }
     }

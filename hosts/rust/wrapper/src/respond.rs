@@ -58,6 +58,8 @@ impl Session {
     /// needs a new draw. Either way `y` is all zero, and the next session has nothing drawn. The rest of `list` is unchanged. A
     /// refused call changes neither `y` nor `z` nor `list`.
     ///
+    /// A session of another deviation than 215 is refused: the tests of a response are BLISS-I's.
+    ///
     /// The words must be fresh random words, as many as [`RESPOND_WORDS`] or more, used for this response alone. With noise drawn
     /// by [`CDT`](crate::CDT) a response is accepted with a chance of about 0.61, and never where the product's sum of squares is
     /// above 46,225; a key that passes [`check_key`](crate::check_key) at the challenge's length makes no such product. Nor is one

@@ -27,13 +27,14 @@ mod random;
 mod records;
 mod responses;
 mod run;
+mod sessions;
 
 use std::env;
 use std::process::ExitCode;
 use std::thread;
 
 use comparison::Comparison;
-use cut_exponential::cut_exponential;
+use cut_exponential::cut_exponential_at;
 use random::Random;
 use run::DEFAULT_SEED;
 
@@ -54,12 +55,14 @@ const LEAST_PAIRS: u64 = 32_000;
 
 type Part = (&'static str, fn(&Comparison));
 
-const PARTS: [Part; 30] = [
+const PARTS: [Part; 33] = [
     ("guards", lent::guards_notice_every_change),
-    ("openings", openings_are_the_models),
+    ("openings", sessions::openings_are_the_models),
+    ("forged sessions", sessions::forged_sessions_are_the_models),
     ("filled parts", filled_parts_are_the_models),
     ("exponentials", exponentials_are_the_models),
     ("draws", draws::draws_are_the_models),
+    ("draws of every size", draws::every_size_is_the_models),
     ("draws spoilt in one place", draws::each_check_alone_is_the_models),
     ("draws by reordered tables", old_order::reordered_tables_draw_as_before),
     ("responses", responses::responses_are_the_models),
@@ -85,6 +88,7 @@ const PARTS: [Part; 30] = [
     ("demand 3, histories", demand3::read_lists_are_equal_exactly_when_histories_are),
     ("demand 3, agreement", demand3::what_is_not_listed_decides_nothing),
     ("demand 3, difference", demand3::what_is_listed_can_decide),
+    ("demand 3, deviations", demand3::the_deviation_can_decide),
 ];
 
 fn main() -> ExitCode {
@@ -133,17 +137,6 @@ fn all_pass(comparison: &Comparison, parts: impl Iterator<Item = Part>) -> bool 
     })
 }
 
-fn openings_are_the_models(comparison: &Comparison) {
-    for n in 0..5000 {
-        comparison.opening(n);
-    }
-    for shift in 0..64 {
-        for n in [1 << shift, (1 << shift) + 4, (1 << shift) - 1, !0 << shift] {
-            comparison.opening(n);
-        }
-    }
-}
-
 fn filled_parts_are_the_models(comparison: &Comparison) {
     let list: Vec<u32> = (0..100).collect();
     for length in 0..=list.len() {
@@ -153,18 +146,32 @@ fn filled_parts_are_the_models(comparison: &Comparison) {
     }
 }
 
-/// N, the cut e(N) and e(N), as exact arithmetic has them: the last four where the cut e(N) comes to 0, and where e(N) does.
-const KNOWN_EXPONENTIALS: [(u64, u64, u64); 10] = [
-    (0, 4611686018427387904, 4611686018427387904),
-    (1, 4611636135668307357, 4611636135668307368),
-    (513, 4586166892218597776, 4586166892218597802),
-    (46_225, 2797128963144291334, 2797128963144291369),
-    (92_450, 1696544475317221329, 1696544475317221345),
-    (1_370_625, 1679544596975, 1679544596975),
-    (3_973_050, 1, 1),
-    (3_973_051, 0, 1),
-    (4_037_131, 0, 1),
-    (4_037_132, 0, 0),
+/// A deviation, N, the cut e(N) and e(N), as exact arithmetic has them: of 107 and 215 also where the cut e(N) comes to 0, and where
+/// e(N) does.
+const KNOWN_EXPONENTIALS: [(u64, u64, u64, u64); 23] = [
+    (107, 1, 4611484621566558888, 4611484621566558939),
+    (107, 513, 4509515940298752004, 4509515940298752012),
+    (107, 984_044, 1, 1),
+    (107, 984_045, 0, 1),
+    (107, 999_916, 0, 1),
+    (107, 999_917, 0, 0),
+    (107, 1_370_625, 0, 0),
+    (215, 0, 4611686018427387904, 4611686018427387904),
+    (215, 1, 4611636135668307357, 4611636135668307368),
+    (215, 513, 4586166892218597776, 4586166892218597802),
+    (215, 46_225, 2797128963144291334, 2797128963144291369),
+    (215, 92_450, 1696544475317221329, 1696544475317221345),
+    (215, 1_370_625, 1679544596975, 1679544596975),
+    (215, 3_973_050, 1, 1),
+    (215, 3_973_051, 0, 1),
+    (215, 4_037_131, 0, 1),
+    (215, 4_037_132, 0, 0),
+    (250, 1, 4611649125086814051, 4611649125086814091),
+    (250, 513, 4592798442822891623, 4592798442822891684),
+    (250, 1_370_625, 79766536849859, 79766536849860),
+    (271, 1, 4611654621317327790, 4611654621317327791),
+    (271, 513, 4595607340672970041, 4595607340672970077),
+    (271, 1_370_625, 408558013066678, 408558013066679),
 ];
 
 /// N where the last squaring leaves less than a half, and more than a half, by the least that it does.
@@ -187,7 +194,8 @@ fn exponentials_are_the_models(comparison: &Comparison) {
     for _ in 0..2_000 {
         comparison.exponential(random.word() >> random.below(64));
     }
-    for (n, cut_e, e) in KNOWN_EXPONENTIALS {
-        assert_eq!((cut_exponential(n), model::exponential(n)), (cut_e, e), "the cut e({n}) and e({n})");
+    for (deviation, n, cut_e, e) in KNOWN_EXPONENTIALS {
+        let given = (cut_exponential_at(deviation, n), model::exponential_at(deviation, n));
+        assert_eq!(given, (cut_e, e), "the cut e({n}) and e({n}) at {deviation}");
     }
 }

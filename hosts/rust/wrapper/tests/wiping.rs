@@ -4,7 +4,7 @@ use std::alloc::{GlobalAlloc, Layout, System};
 use std::slice;
 use std::sync::atomic::{AtomicUsize, Ordering::SeqCst};
 
-use bliss_box::{draw_word_count, sample_count, OwnedDraw, Secret, Session, CDT, POLYNOMIAL, RESPOND_WORDS};
+use bliss_box::{draw_word_count, sample_count, Deviation, OwnedDraw, Secret, Session, CDT, POLYNOMIAL, RESPOND_WORDS};
 
 /// Blocks of this many bytes are looked at; 0 is none.
 static WATCHED: AtomicUsize = AtomicUsize::new(0);
@@ -58,7 +58,7 @@ fn secrets_are_wiped_when_they_are_dropped() {
     let (n, limit) = (64, 9 * 64);
     let draw = || {
         let words = Secret::system_words(draw_word_count(limit)).unwrap();
-        let session = Session::open(n).unwrap();
+        let session = Session::open(n, Deviation::D215).unwrap();
         let mut drawn = None;
         let counts =
             given_back(8 * draw_word_count(limit), || drawn = Some(session.draw_owned(limit, &CDT, &POLYNOMIAL, words)));

@@ -131,7 +131,7 @@ wrong_z1() {
         "let bit = response.tests()[..4] == [true; 4] && (0..n).all(|i| $2.abs() <= COEFFICIENT_LIMIT);"
 }
 
-# Document 01's e(N), which no model takes.
+# e(N) with document 01's squarings, which no model takes.
 cut_e=crate::cut_exponential::cut_exponential
 
 # Whether a respond call is one for a blank response.
@@ -157,6 +157,17 @@ wrong_blank_call() {
      let refusal = refusal_of_respond(call);"
 }
 
+# wrong_session NAME REFUSAL: one that tests the deviation of a session last. REFUSAL is the model's function, up to the call that it
+# takes.
+wrong_session() {
+    wrong "$1" "let refusal = $2call);" "let mut at_215 = call.clone();
+     at_215.session.deviation = 215;
+     let refusal = match $2&at_215) {
+         0 => $2call),
+         refusal => refusal,
+     };"
+}
+
 # wrong_refusal NAME CHANGE: one that changes `refusal`, that of the fields of a record to be written.
 wrong_refusal() {
     wrong "$1" 'let refusal = refusal_of_fields(&fields);' "let mut refusal = refusal_of_fields(&fields);
@@ -169,7 +180,7 @@ wrong_told() {
 }
 
 # Document 01's calls, and what document 02 changed of them.
-words='openings filled exponentials draws responses lists demand'
+words='openings forged filled exponentials draws responses lists demand'
 compare || fail "the right model is not the archive's"
 
 # The traps of document 01. Two of them change no value: the read list alone can show them.
@@ -228,7 +239,7 @@ wrong 'N with 256x' 'b * (b + 512 * x)' 'b * (b + 256 * x)'
 wrong 'zero is rejected with both signs' '!(self.size() == 0 && self.negative)' 'self.size() != 0'
 wrong 'x = 0 with sign 1 is rejected' '!(self.size() == 0 && self.negative)' '!(self.x == 0 && self.negative)'
 wrong 'accepted at e(N) too' 'self.tested < self.e' 'self.tested <= self.e'
-wrong_by_values 'accepted by the cut e(N)' 'exponential(n))' "$cut_e(n))"
+wrong_by_values 'accepted by the cut e(N)' 'exponential_at(deviation, n)' "${cut_e}_at(deviation, n)"
 wrong 'samples without a sign' '-(self.size() as i32)' 'self.size() as i32'
 
 # Draw
@@ -236,8 +247,8 @@ wrong 'spent one attempt early' 'attempts.len() < call.limit' 'attempts.len() + 
 wrong 'full one sample early' 'while samples.len() < 2 * n' 'while samples.len() < 2 * n - 1'
 wrong 'never full on the last attempt' 'let full = samples.len() == 2 * n;' \
     'let full = samples.len() == 2 * n && attempts.len() < call.limit;'
-wrong 'words of the first attempt again' 'Attempt::of(words, &thresholds)' \
-    'Attempt::of(call.words[..4].try_into().unwrap_or(words), &thresholds)'
+wrong 'words of the first attempt again' 'Attempt::of(call.session.deviation, words, &thresholds)' \
+    'Attempt::of(call.session.deviation, call.words[..4].try_into().unwrap_or(words), &thresholds)'
 wrong 'y stands on spent' 'vec![0; 2 * n]' 'call.y.clone()'
 wrong 'accepted samples stand on spent' 'vec![0; 2 * n]' \
     'samples.iter().copied().chain(vec![0; 2 * n - samples.len()]).collect()'
@@ -267,11 +278,10 @@ wrong 'low words are listed at equal high words alone' 'list_attempt(&mut entrie
      }'
 
 # The session after a draw
-wrong 'spent keeps drawn' 'drawn: full }' 'drawn: full || call.session.drawn }'
-wrong 'a refused draw clears drawn' 'session: call.session,' \
-    'session: Session { drawn: false, ..call.session },'
+wrong 'spent keeps drawn' 'u64::from(full)' 'u64::from(full || call.session.is_drawn())'
+wrong 'a refused draw clears drawn' 'session: call.session,' 'session: Session { drawn: 0, ..call.session },'
 wrong 'a refused draw gives degree 0 for a wrong one' 'session: call.session,' \
-    'session: if refusal == 1 { super::open(0).1 } else { call.session },'
+    'session: Session { degree: if refusal == 1 { 0 } else { call.session.degree }, ..call.session },'
 
 # Refusals of a draw
 wrong 'a refused draw zeroes y' 'y: call.y.clone(),' 'y: vec![0; call.y.len()],'
@@ -363,11 +373,11 @@ wrong 'four tests of five are enough' 'self.tests() == [true; 5]' 'self.tests().
 wrong 'z before the call is kept on bit 0' 'else { vec![0; 2 * n] }' 'else { call.z.clone() }'
 wrong 'y is kept' 'y: vec![0; 2 * n],' 'y: call.y.clone(),'
 wrong 'y is kept on bit 0' 'y: vec![0; 2 * n],' 'y: if bit { vec![0; 2 * n] } else { call.y.clone() },'
-wrong 'drawn is kept' 'Session { degree: n, drawn: false }' 'Session { degree: n, drawn: true }'
-wrong 'drawn is kept on bit 0' 'Session { degree: n, drawn: false }' 'Session { degree: n, drawn: !bit }'
+wrong 'drawn is kept' 'drawn: 0,' 'drawn: 1,'
+wrong 'drawn is kept on bit 0' 'drawn: 0,' 'drawn: u64::from(!bit),'
 wrong 'a refused response zeroes y' 'y: call.y.clone(),' 'y: vec![0; call.y.len()],'
 wrong 'a refused response zeroes z' 'z: call.z.clone(),' 'z: vec![0; call.z.len()],'
-wrong 'a refused response clears drawn' 'session: call.session,' 'session: Session { drawn: false, ..call.session },'
+wrong 'a refused response clears drawn' 'session: call.session,' 'session: Session { drawn: 0, ..call.session },'
 
 # Document 02's test of z1
 z1='&self.z[..self.z.len() / 2]'
@@ -394,7 +404,7 @@ wrong 'z is kept where z1 rejects' 'z: if bit {' "z: if bit || $by_z1 {"
 wrong 'z before the call is kept where z1 rejects' 'else { vec![0; 2 * n] }' \
     "else if $by_z1 { call.z.clone() } else { vec![0; 2 * n] }"
 wrong 'y is kept where z1 rejects' 'y: vec![0; 2 * n],' "y: if $by_z1 { call.y.clone() } else { vec![0; 2 * n] },"
-wrong 'drawn is kept where z1 rejects' 'Session { degree: n, drawn: false }' "Session { degree: n, drawn: $by_z1 }"
+wrong 'drawn is kept where z1 rejects' 'drawn: 0,' "drawn: u64::from($by_z1),"
 wrong 'the last entry is missing where z1 rejects' 'let entries = entries_of(n, &call.challenge, bit);' \
     "let mut entries = entries_of(n, &call.challenge, bit);
      if $by_z1 { entries.pop(); }"
@@ -422,7 +432,7 @@ wrong_blank 'blank, z2 is tested too' 'bit &= response.z.iter().all(|z| z.abs() 
 wrong_blank 'blank, word 2 is tested by e(46,225)' 'bit &= response.tested2 < response.e1;'
 wrong 'blank, z is kept on bit 0' 'z: if bit {' "z: if bit || $blank {"
 wrong 'blank, y is kept' 'y: vec![0; 2 * n],' "y: if $blank { call.y.clone() } else { vec![0; 2 * n] },"
-wrong 'blank, drawn is kept' 'Session { degree: n, drawn: false }' "Session { degree: n, drawn: $blank }"
+wrong 'blank, drawn is kept' 'drawn: 0,' "drawn: u64::from($blank),"
 wrong_blank_list 'blank, an entry of kind 8 where the list has room' \
     'if call.list.len() > entries.len() { entries.insert(1, entry(8, 0)); }'
 wrong_blank_list 'blank, an entry of kind 8 for word 0, which decides nothing' 'entries[1] = entry(8, 0);'
@@ -435,7 +445,7 @@ wrong_by_padded_list 'blank, 46 entries are enough' 'refusal_of_respond(' 'respo
 wrong_blank_call 'blank, a key of any length is served' 'changed.key.resize(call.y.len(), 0);'
 wrong_blank_call 'blank, two words are enough' 'changed.words.push(0);'
 wrong 'blank, any polynomial table is served' 'call.polynomial != POLYNOMIAL' "!$blank && call.polynomial != POLYNOMIAL"
-wrong 'blank, nothing drawn is served' '!call.session.drawn' "!$blank && !call.session.drawn"
+wrong 'blank, nothing drawn is served' '!call.session.is_drawn()' "!$blank && !call.session.is_drawn()"
 wrong 'blank, any key values are served' 'call.key.iter().any' "!$blank && call.key.iter().any"
 wrong 'blank, any values of y are served' 'call.y.iter().any' "!$blank && call.y.iter().any"
 
@@ -469,7 +479,7 @@ wrong 'more than three words are refused' 'call.words.len() < WORDS_ASKED' 'call
 wrong 'four words are asked for' 'call.words.len() < WORDS_ASKED' 'call.words.len() <= WORDS_ASKED'
 wrong_by_padding 'refusal_of_respond(' 'respond('
 wrong 'one entry more is asked for' 'saturating_add(47)' 'saturating_add(48)'
-wrong 'a response with nothing drawn is served' '!call.session.drawn' 'false'
+wrong 'a response with nothing drawn is served' '!call.session.is_drawn()' 'false'
 wrong 'key value 8 is served' '(-7..=7)' '(-7..=8)'
 wrong 'key value -8 is served' '(-7..=7)' '(-8..=7)'
 wrong 'key value 7 is refused' '(-7..=7)' '(-7..7)'
@@ -498,11 +508,11 @@ wrong 'refusals 8 and 7 in the other order' 'if call.words.len() <' \
     'if call.list.len() < list_asked(n, call.challenge.len()) { return 8; }
      if call.words.len() <'
 wrong 'refusals 9 and 8 in the other order' 'if call.list.len() <' \
-    'if call.session == (Session { degree: n, drawn: false }) { return 9; }
+    'if call.session.drawn != 1 { return 9; }
      if call.list.len() <'
-wrong 'refusals 10 and 9 in the other order' 'if !call.session.drawn {' \
+wrong 'refusals 10 and 9 in the other order' 'if !call.session.is_drawn() {' \
     'if call.key.iter().any(|value| value.unsigned_abs() > 7) { return 10; }
-     if !call.session.drawn {'
+     if !call.session.is_drawn() {'
 wrong 'refusals 11 and 10 in the other order' 'if call.key.iter()' \
     'if call.y.iter().any(|value| value.unsigned_abs() > 2815) { return 11; }
      if call.key.iter()'
@@ -514,7 +524,7 @@ wrong 'whole words' 'u128::from(word) % ONE' 'u128::from(word)'
 wrong 'entry 20 is not listed' '(0..21).rev()' '(0..20).rev()'
 wrong 'the polynomial table is listed upwards' '(0..21).rev()' '0..21'
 wrong 'the rest of the list is zeroed' 'let mut list = list.to_vec();' 'let mut list = vec![0; list.len()];'
-wrong 'a refused opening keeps the degree' 'Session { degree: 0, drawn: false }' 'Session { degree: n, drawn: false }'
+wrong 'a refused opening keeps the degree' 'degree: 0,' 'degree: n,'
 wrong 'degree 2 is served' '[4, 8,' '[2, 4, 8,'
 wrong 'degree 1024 is refused' '512, 1024]' '512]'
 
@@ -546,10 +556,121 @@ wrong_turns 'the first squaring is cut' 'turn != 0'
 wrong_turns 'the last squaring is cut' 'turn != 5'
 wrong 'e(0) is below 2^62' "$squaring" "($squaring).min(ONE - 1)"
 wrong 'e(0) is above 2^62' "$squaring" '(a * a + if a == ONE { ONE } else { 1 << 61 }) / ONE'
-wrong 'e(N) is 0 where the cut e(N) is' 'let mut a = evaluated(n);' 'let mut a = if n < 3_973_051 { evaluated(n) } else { 0 };'
+wrong 'e(N) is 0 where the cut e(N) is' 'let mut a = evaluated(deviation, n);' \
+    "let mut a = if ${cut_e}_at(deviation, n) > 0 { evaluated(deviation, n) } else { 0 };"
 wrong_e 'the evaluation is rounded' 'a * v / ONE' '(a * v + (1 << 61)) / ONE'
 wrong_e 'v is rounded' 'u128::from(n) * r / (1 << 22)' '(u128::from(n) * r + (1 << 21)) / (1 << 22)'
-wrong_e 'R is rounded' '(1 << 84) / 5_916_800' '((1 << 84) + 2_958_400) / 5_916_800'
+wrong_e 'R is rounded' '(1 << 84) / (64 * d)' '((1 << 84) + 32 * d) / (64 * d)'
+
+# Document 02's deviations: e(N), in draws alone
+words='draws deviations'
+divisor='2 * u128::from(deviation).pow(2)'
+reciprocal='(1 << 84) / (64 * d)'
+wrong_by_values "215's R for every deviation" "$divisor" '2 * 215_u128.pow(2)'
+wrong_by_values "107's and 271's R change places" "$divisor" \
+    '2 * u128::from(if [107, 271].contains(&deviation) { 378 - deviation } else { deviation }).pow(2)'
+wrong_by_values "215's R for 250" "$divisor" '2 * u128::from(if deviation == 250 { 215 } else { deviation }).pow(2)'
+wrong_by_values "250's R for 271" "$divisor" '2 * u128::from(deviation.min(250)).pow(2)'
+wrong_by_values 'D is the square alone' "$divisor" 'u128::from(deviation).pow(2)'
+wrong_by_values 'D is the deviation doubled, and then squared' "$divisor" 'u128::from(2 * deviation).pow(2)'
+wrong_by_values 'R in 63 bits' "$reciprocal" "$reciprocal % (1 << 63)"
+for deviation in 107 250 271; do
+    wrong_by_values "R is one more at $deviation" "$reciprocal" "$reciprocal + u128::from(deviation == $deviation)"
+    wrong_by_values "R is one less at $deviation" "$reciprocal" "$reciprocal - u128::from(deviation == $deviation)"
+done
+part=draw.rs
+wrong 'the first entry has the deviation' 'entry(1, n)' 'entry(1, call.session.deviation as usize)'
+
+# Openings
+part=mod.rs
+words='openings lists'
+wrong 'opening, refusals 16 and 1 in the other order' 'if !degree_is_served(n) {' \
+    'if !deviation_is_served(deviation) { return 16; }
+     if !degree_is_served(n) {'
+wrong 'opening, every deviation but 0 is served' 'if !deviation_is_served(deviation) {' 'if deviation == 0 {'
+wrong 'a refused opening holds 215' 'deviation: 0,' 'deviation: 215,'
+wrong 'a refused opening holds the deviation' 'deviation: 0,' 'deviation,'
+wrong 'an opening refused by 16 holds the deviation' 'deviation: 0,' 'deviation: if refusal == 16 { deviation } else { 0 },'
+wrong 'an opening refused by 1 holds the deviation' 'deviation: 0,' 'deviation: if refusal == 1 { deviation } else { 0 },'
+wrong 'an opening refused by 16 keeps the degree' 'degree: 0,' 'degree: if refusal == 16 { n } else { 0 },'
+wrong 'every opening holds 215' 'degree: n, deviation,' 'degree: n, deviation: 215,'
+
+# Deviations that are served, and what is drawn
+words='openings forged draws responses lists'
+four='[107, 215, 250, 271].contains(&deviation)'
+wrong 'every deviation from 107 to 271 is served' "$four" '(107..=271).contains(&deviation)'
+wrong '108 is served' "$four" '[107, 108, 215, 250, 271].contains(&deviation)'
+wrong '2^32 + 215 is served' "$four" "$four || deviation == (1 << 32) + 215"
+wrong '107 is refused' "$four" '[215, 250, 271].contains(&deviation)'
+wrong '271 is refused' "$four" '[107, 215, 250].contains(&deviation)'
+wrong '2 is drawn' 'self.drawn == 1' '[1, 2].contains(&self.drawn)'
+wrong 'every number but 0 is drawn' 'self.drawn == 1' 'self.drawn != 0'
+wrong 'every odd number is drawn' 'self.drawn == 1' 'self.drawn % 2 == 1'
+wrong '1 in 8 bits is drawn' 'self.drawn == 1' 'self.drawn as u8 == 1'
+wrong '1 in 32 bits is drawn' 'self.drawn == 1' 'self.drawn as u32 == 1'
+
+# Deviations of draws
+part=draw.rs
+words='forged draws lists'
+served='if !deviation_is_served(call.session.deviation) {'
+wrong 'draw, refusals 16 and 1 in the other order' 'if !degree_is_served(n) {' \
+    "$served return 16; }
+     if !degree_is_served(n) {"
+wrong 'draw, refusals 2 and 16 in the other order' "$served" \
+    "if call.cdt.len() + 1 != 21 { return 2; }
+     $served"
+wrong_session 'draw, refusal 16 is tested last' 'refusal_of_draw(order, '
+wrong 'a draw at 108 is served' "$served" 'if !(call.session.deviation == 108 || deviation_is_served(call.session.deviation)) {'
+wrong 'a draw at 250 is refused by 17' "$served" "if call.session.deviation == 250 { return 17; }
+     $served"
+next='drawn: u64::from(full),'
+back='session: call.session,'
+wrong 'a draw loses the deviation' "$next" "$next deviation: 0,"
+wrong 'a draw hands 215 back' "$next" "$next deviation: 215,"
+wrong 'a spent draw loses the deviation' "$next" "$next deviation: if full { call.session.deviation } else { 0 },"
+wrong 'a refused draw loses the deviation' "$back" 'session: Session { deviation: 0, ..call.session },'
+wrong 'a refused draw hands 215 back for another deviation' "$back" \
+    'session: Session { deviation: if refusal == 16 { 215 } else { call.session.deviation }, ..call.session },'
+wrong 'a refused draw hands 0 back for a drawn of 2' "$back" \
+    'session: Session { drawn: u64::from(call.session.is_drawn()), ..call.session },'
+wrong 'a refused draw hands 1 back for a drawn of 2' "$back" \
+    'session: Session { drawn: call.session.drawn.min(1), ..call.session },'
+wrong 'a full draw keeps a drawn of 2' "$next" 'drawn: if full { call.session.drawn.max(1) } else { 0 },'
+wrong 'a spent draw keeps a drawn of 2' "$next" 'drawn: if full { 1 } else if call.session.is_drawn() { 0 } else { call.session.drawn },'
+
+# Deviations of responses
+part=respond.rs
+words='forged responses lists'
+at_215='if call.session.deviation != RESPONSE_DEVIATION {'
+wrong 'response, refusals 16 and 1 in the other order' 'if !degree_is_served(n) {' \
+    "$served return 16; }
+     if !degree_is_served(n) {"
+wrong 'response, refusals 17 and 1 in the other order' 'if !degree_is_served(n) {' \
+    "$at_215 return 17; }
+     if !degree_is_served(n) {"
+wrong 'refusals 17 and 16 in the other order' "$served" "$at_215 return 17; }
+     $served"
+wrong 'response, refusals 2 and 16 in the other order' "$served" \
+    "if call.polynomial.len() + 1 != 22 { return 2; }
+     $served"
+wrong 'response, refusals 2 and 17 in the other order' "$at_215" \
+    "if call.polynomial.len() + 1 != 22 { return 2; }
+     $at_215"
+wrong 'response, refusals 9 and 17 in the other order' "$at_215" "if call.session.drawn != 1 { return 9; }
+     $at_215"
+wrong_session 'response, refusals 16 and 17 are tested last' 'refusal_of_respond('
+wrong 'a response is refused by 16 for 17' 'return 17;' 'return 16;'
+for deviation in 107 250 271; do
+    wrong "a response at $deviation is served" "$at_215" "if ![RESPONSE_DEVIATION, $deviation].contains(&call.session.deviation) {"
+done
+wrong 'a response loses the deviation' 'drawn: 0,' 'drawn: 0, deviation: 0,'
+wrong 'a refused response loses the deviation' "$back" 'session: Session { deviation: 0, ..call.session },'
+wrong 'a response refused by 17 hands 215 back' "$back" \
+    'session: Session { deviation: if refusal == 17 { 215 } else { call.session.deviation }, ..call.session },'
+wrong 'a refused response hands 0 back for a drawn of 2' "$back" \
+    'session: Session { drawn: u64::from(call.session.is_drawn()), ..call.session },'
+wrong 'a refused response hands 1 back for a drawn of 2' "$back" \
+    'session: Session { drawn: call.session.drawn.min(1), ..call.session },'
 
 # Document 01's order of the CDT, and its reordering
 part=../old_order/mod.rs

@@ -2,11 +2,11 @@
 
 use std::time::{Duration, Instant};
 
-use bliss_box::{draw_limit, draw_word_count, sample_count, Counts, Entry, Kind, Noise, OwnedDraw, OwnedResponse, Session};
-use bliss_box::{CDT, POLYNOMIAL, RESPOND_WORDS};
+use bliss_box::{draw_limit, draw_word_count, sample_count, POLYNOMIAL, RESPOND_WORDS};
+use bliss_box::{Counts, Deviation, Entry, Kind, Noise, OwnedDraw, OwnedResponse, Session};
 use clap::Args;
 
-use crate::drawing::Degree;
+use crate::drawing::NoiseOptions;
 use crate::ending::{Failure, Status};
 use crate::output;
 use crate::picture::Picture;
@@ -16,22 +16,33 @@ use crate::words::Words;
 ///
 /// Draws the noise of one signature from the system's random words, and answers a challenge with it and a toy key. Shows the noise
 /// beside what is expected of it, the counts, the times, and what was listed.
+///
+/// A response is BLISS-I's: at another deviation than 215 there is none, and the noise alone is shown.
 #[derive(Args)]
 pub struct Demo {
     #[command(flatten)]
-    degree: Degree,
+    noise: NoiseOptions,
 }
 
 const INTRODUCTION: &str = "\
-A BLISS-I signature hides its key behind noise: random whole numbers around 0, each of which must
+A BLISS signature hides its key behind noise: random whole numbers around 0, each of which must
 come up just as often as the rules say. This is noise that the box drew for one signature, counted
 range by range: a bar of # for the samples drawn, and a | at the exact count that is expected.
 ";
 
+const WITHOUT_RESPONSE: &str = "response   none: a response is made at deviation 215 alone";
+
+/// What is said of the list of a draw and a response.
 const LISTED: &str = "\
 The box listed each place of words, tables and key that it read after its checks. Whoever reads the
 list learns the degree, which attempts were accepted, the challenge and the bit of the response, but
 no word, no noise and no key value:
+";
+
+/// What is said of the list of a draw alone.
+const DRAW_LISTED: &str = "\
+The box listed each place of words and tables that it read after its checks. Whoever reads the list
+learns the degree and which attempts were accepted, but no word and no noise:
 ";
 
 /// The positions of a challenge of BLISS-I.
@@ -40,19 +51,25 @@ const POSITIONS: usize = 23;
 /// The values of the response that are shown.
 const VALUES: usize = 8;
 
-/// What is shown of the try that was accepted.
+/// What is shown of a try: one whose response was accepted, or the first full draw where no response is made.
 struct Shown {
+    limit: usize,
     counts: Counts,
     picture: Picture,
     draw_time: Duration,
-    z: Vec<i32>,
-    respond_time: Duration,
+    response: Option<Response>,
     list: Vec<u32>,
+}
+
+/// A response that was accepted.
+struct Response {
+    z: Vec<i32>,
+    time: Duration,
 }
 
 impl Demo {
     pub fn run(&self) -> Result<Status, Failure> {
-        let mut session = self.degree.open()?;
+        let mut session = self.noise.open()?;
         let mut tries = 0;
         let shown = loop {
             let (next, shown) = try_once(session, tries)?;
@@ -69,25 +86,30 @@ impl Demo {
 
 /// One try. A spent draw has no noise to respond with, so it is a try that fails.
 fn try_once(session: Session, number: usize) -> Result<(Session, Option<Shown>), Failure> {
-    let (drawn, draw_time) = timed_draw(session)?;
+    let limit = draw_limit(session.degree(), session.deviation());
+    let (drawn, draw_time) = timed_draw(session, limit)?;
     let noise = match drawn {
         OwnedDraw::Full(noise) => noise,
         OwnedDraw::Spent(spent) => return Ok((spent.session, None)),
     };
     // The response wipes the noise, so what is shown of it is worked out before.
-    let (counts, picture) = (noise.counts(), Picture::of(noise.samples()));
-    let draw_list = noise.list().to_vec();
-    let (responded, respond_time) = timed_response(noise, number)?;
-    let list = [draw_list, responded.list].concat();
-    let shown = responded.z.map(|z| Shown { counts, picture, draw_time, z, respond_time, list });
-    Ok((responded.session, shown))
+    let picture = Picture::of(noise.deviation(), noise.samples());
+    let (counts, list) = (noise.counts(), noise.list().to_vec());
+    let mut shown = Shown { limit, counts, picture, draw_time, response: None, list };
+    if noise.deviation() != Deviation::D215 {
+        return Ok((noise.discard(), Some(shown)));
+    }
+    let (responded, time) = timed_response(noise, number)?;
+    shown.list.extend(responded.list);
+    shown.response = responded.z.map(|z| Response { z, time });
+    Ok((responded.session, shown.response.is_some().then_some(shown)))
 }
 
-fn timed_draw(session: Session) -> Result<(OwnedDraw, Duration), Failure> {
-    let limit = draw_limit(session.degree());
+fn timed_draw(session: Session, limit: usize) -> Result<(OwnedDraw, Duration), Failure> {
+    let cdt = session.deviation().cdt();
     let words = Words::System.take(draw_word_count(limit))?;
     let start = Instant::now();
-    let drawn = session.draw_owned(limit, &CDT, &POLYNOMIAL, words)?;
+    let drawn = session.draw_owned(limit, cdt, &POLYNOMIAL, words)?;
     Ok((drawn, start.elapsed()))
 }
 
@@ -120,23 +142,37 @@ fn shown_time(time: Duration) -> String {
 impl Shown {
     fn text(&self, n: usize, tries: usize) -> String {
         let Counts { attempts, accepted, entries: _ } = self.counts;
-        let (limit, positions) = (draw_limit(n), POSITIONS.min(n));
-        let values: Vec<String> = self.z.iter().take(VALUES).map(i32::to_string).collect();
+        let (response, told) = match &self.response {
+            Some(response) => (response.text(n, tries), LISTED),
+            None => (WITHOUT_RESPONSE.into(), DRAW_LISTED),
+        };
         let lines = [
             INTRODUCTION.into(),
             self.picture.text(),
             format!("degree     {n}"),
             format!(
-                "draw       full: {accepted} samples in {attempts} of at most {limit} attempts, {}",
+                "draw       full: {accepted} samples in {attempts} of at most {} attempts, {}",
+                self.limit,
                 shown_time(self.draw_time)
             ),
             format!("deviation  {}", self.picture.deviation()),
-            format!("response   accepted at try {tries} (about 61 of 100 tries are), {}", shown_time(self.respond_time)),
+            response,
+            format!("read list  {} entries\n", self.list.len()),
+            told.into(),
+            listed(&self.list),
+        ];
+        lines.join("\n")
+    }
+}
+
+impl Response {
+    fn text(&self, n: usize, tries: usize) -> String {
+        let positions = POSITIONS.min(n);
+        let values: Vec<String> = self.z.iter().take(VALUES).map(i32::to_string).collect();
+        let lines = [
+            format!("response   accepted at try {tries} (about 61 of 100 tries are), {}", shown_time(self.time)),
             format!("           a toy key, and a challenge of {positions} positions"),
             format!("           {}, ..", values.join(", ")),
-            format!("read list  {} entries\n", self.list.len()),
-            LISTED.into(),
-            listed(&self.list),
         ];
         lines.join("\n")
     }

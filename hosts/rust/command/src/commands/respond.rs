@@ -5,18 +5,17 @@ use bliss_box::{POLYNOMIAL, RESPOND_WORDS};
 use clap::{Args, ValueHint};
 
 use crate::arguments::whole_number;
-use crate::drawing::{self, DrawOptions, Drawing};
+use crate::drawing::{self, Degree, DrawOptions, Drawing};
 use crate::ending::{Failure, Status};
 use crate::files::{InputPath, NumberFile, OutputPath, Table};
 use crate::output::{self, Delivery, Target};
-use crate::picture::Picture;
 use crate::program::SEE_FILES;
 use crate::refused;
 
 /// Draws noise, and answers a challenge with it and a key.
 ///
 /// Prints the response z, 2N values, one a line. A rejected response is tried again with new noise. What was counted goes to
-/// standard error, try by try.
+/// standard error, try by try. The noise has BLISS-I's deviation, 215: responses are made at no other.
 ///
 /// This command is for trying the box and its tables. It is not a signer: in a signature the challenge hashes what the noise
 /// commits to, so a signer makes a new challenge for each try.
@@ -68,6 +67,9 @@ pub struct Respond {
     /// file is not written.
     #[arg(long, value_name = "FILE", value_hint = ValueHint::FilePath)]
     record: Option<OutputPath>,
+
+    #[command(flatten)]
+    degree: Degree,
 
     #[command(flatten)]
     options: DrawOptions,
@@ -165,7 +167,7 @@ impl Respond {
         if self.record.as_ref().is_some_and(OutputPath::is_standard) {
             output::check_takes_bytes()?;
         }
-        let mut session = self.options.open()?;
+        let mut session = self.degree.open()?;
         let n = session.degree();
         let mut responding = Responding {
             drawing: self.options.drawing(&session)?,
@@ -180,7 +182,7 @@ impl Respond {
             output::say(&format!("try {number}: {}", tried.summary));
             lists.add(&tried.list)?;
             if let Some(z) = tried.z {
-                let mut delivery = Delivery::of(if self.picture { picture(&z) } else { output::lines(&z) });
+                let mut delivery = Delivery::of(drawing::printed(&z, session.deviation(), self.picture));
                 let stored_alone = record.is_some() && self.blank;
                 if let Some(target) = record {
                     delivery.add(target, responding.record(&z)?)?;
@@ -206,10 +208,4 @@ impl Respond {
         let path = self.challenge.as_ref().expect("a command line has one or --blank");
         Table::read(NumberFile::public(path)?, challenge_limit(n)).map(Some)
     }
-}
-
-/// A response in place of its values: how many fall in each range, and their deviation.
-fn picture(z: &[i32]) -> Secret<u8> {
-    let picture = Picture::of(z);
-    Secret::from(format!("{}\ndeviation  {}\n", picture.text(), picture.deviation()).into_bytes())
 }

@@ -34,21 +34,29 @@ fn each_command_has_help() {
         assert!(short.len() < long.len() && long == by_command, "{by_command}");
     }
     let [_, draw, _] = helps(&["draw"]);
-    for text in ["[default: 512]", "[default: 4N + 56]", "built-in", "give the key away", "in place of", "status 3"] {
+    for text in [
+        "[default: 512]",
+        "[default: 215]",
+        "[default: 4N + 56; at 107 6N + 88]",
+        "built-in",
+        "give the key away",
+        "in place of",
+        "status 3",
+    ] {
         assert!(draw.contains(text), "{text}");
     }
 }
 
 #[test]
 fn each_option_is_in_the_help() {
-    let drawing = ["--degree", "--limit", "--cdt", "--words", "--list"];
-    assert_eq!(options("draw"), drawing);
-    let responding = ["--key", "--challenge", "--blank", "--picture", "--tries", "--record"];
+    let drawing = ["--limit", "--cdt", "--words", "--list"];
+    assert_eq!(options("draw"), [&["--degree", "--deviation", "--picture"][..], &drawing].concat());
+    let responding = ["--key", "--challenge", "--blank", "--picture", "--tries", "--record", "--degree"];
     assert_eq!(options("respond"), [&responding[..], &drawing].concat());
     assert_eq!(options("check-key"), ["--length", "--degree"]);
     assert_eq!(options("record write"), ["--degree", "--challenge", "--z1", "--z2"]);
     assert_eq!(options("record read"), ["--challenge", "--z1", "--z2"]);
-    assert_eq!(options("demo"), ["--degree"]);
+    assert_eq!(options("demo"), ["--degree", "--deviation"]);
     for command in commands() {
         for option in options(&command) {
             if FLAGS.contains(&option.as_str()) {
@@ -98,6 +106,17 @@ fn bad_values_of_options_are_said() {
     fails(&["draw", "--degree", "-4"], 1, "--degree: \"-4\" has a minus sign, and no value here is negative");
     fails(&["draw", "--limit", "-4"], 1, "--limit: \"-4\" has a minus sign, and no value here is negative");
     fails(&["demo", "--degree", ""], 1, "--degree: \"\" is not a whole number in decimal");
+    for command in ["draw", "demo"] {
+        let refused = |value: &str, problem: &str| {
+            fails(&[command, "--deviation", value], 1, &format!("--deviation: {value:?} {problem}"));
+        };
+        refused("x", "is not a whole number in decimal");
+        refused("", "is not a whole number in decimal");
+        refused("-1", "has a minus sign, and no value here is negative");
+        refused("18446744073709551616", "is outside 0 to 18446744073709551615");
+        refused("0,8398", &format!("has a comma in it: {whole}"));
+        refused("215.0", &format!("has a point in it: {whole}"));
+    }
     let [key, challenge] = key_and_challenge("no-tries");
     let respond = |tries: &str, problem: &str| {
         fails(&["respond", "--key", &key, "--challenge", &challenge, "--tries", tries], 1, problem);
@@ -141,6 +160,8 @@ fn wrong_command_lines_are_explained() {
         (&["list", "a", "b"], "b"),
         (&["check-key", "--length", "23", "a", "b"], "b"),
         (&["demo", "--limit", "4"], "--limit"),
+        (&["respond", "--deviation", "215"], "--deviation"),
+        (&["exp", "--deviation", "215", "0"], "--deviation"),
         (&["record", "--degree", "4"], "--degree"),
         (&["record", "write", "sig.bin"], "sig.bin"),
         (&["record", "read", "sig.bin", "--degree", "4"], "--degree"),

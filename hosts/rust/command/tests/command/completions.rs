@@ -18,6 +18,12 @@ fn bash_completes_commands_options_and_files() {
     assert_eq!(offered(&["bliss-box", "dr"]), "draw");
     assert_eq!(offered(&["bliss-box", "draw", "--li"]), "--limit --list");
     assert_eq!(offered(&["bliss-box", "draw", "--tr"]), "");
+    assert_eq!(offered(&["bliss-box", "draw", "--de"]), "--degree --deviation");
+    assert_eq!(offered(&["bliss-box", "respond", "--de"]), "--degree");
+    for command in ["draw", "demo"] {
+        assert_eq!(offered(&["bliss-box", command, "--deviation", ""]), "107 215 250 271");
+        assert_eq!(offered(&["bliss-box", command, "--deviation", "25"]), "250");
+    }
     assert_eq!(offered(&["bliss-box", "check"]), "check-key");
     assert_eq!(offered(&["bliss-box", "check-key", "--l"]), "--length");
     assert_eq!(offered(&["bliss-box", "rec"]), "record");

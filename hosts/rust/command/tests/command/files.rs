@@ -1,6 +1,6 @@
 //! Files that are read: what they hold, and what is said of bad ones.
 
-use bliss_box::{draw_limit, CDT};
+use bliss_box::CDT;
 
 use super::*;
 
@@ -112,8 +112,8 @@ fn files_that_cannot_be_read_are_named() {
 
 #[test]
 fn tables_may_say_what_they_are() {
-    let words = random_words(2, draw_word_count(draw_limit(4)));
-    let expected = lines(library_draw(open(4), draw_limit(4), &CDT, &words).samples());
+    let words = random_words(2, draw_word_count(LIMIT));
+    let expected = lines(library_draw(open(4), LIMIT, &CDT, &words).samples());
     let mut text = String::from("# words\r\n\r\n");
     for word in &words {
         text += &format!("\t 00{word} \r\n  # and so on\n");

@@ -22,7 +22,7 @@ use std::fs;
 use std::io::Write;
 use std::process::{Child, Command, Stdio};
 
-use bliss_box::{draw_word_count, Noise, OwnedDraw, Secret, Session, POLYNOMIAL};
+use bliss_box::{draw_limit, draw_word_count, Deviation, Noise, OwnedDraw, Secret, Session, POLYNOMIAL};
 use random::Random;
 
 /// What a run of the program left.
@@ -168,6 +168,11 @@ fn random_words(seed: u64, count: usize) -> Vec<u64> {
     (0..count).map(|_| random.word()).collect()
 }
 
+/// A part of 2^62, as a word.
+fn part(of_one: f64) -> u64 {
+    (of_one * 2_f64.powi(62)) as u64
+}
+
 /// What a run says that has drawn with a file of words, and then says this.
 fn warned(words: &str, said: &str) -> String {
     let twice = "words used twice make the same noise twice, and two responses over one noise give the key away";
@@ -188,8 +193,11 @@ fn library_draw(session: Session, limit: usize, cdt: &[u64], words: &[u64]) -> N
 }
 
 fn open(n: usize) -> Session {
-    Session::open(n).unwrap()
+    Session::open(n, Deviation::D215).unwrap()
 }
+
+/// The default limit of draws at degree 4.
+const LIMIT: usize = draw_limit(4, Deviation::D215);
 
 const KEY: [i32; 8] = [1, 2, 3, 4, -1, 0, 7, -7];
 

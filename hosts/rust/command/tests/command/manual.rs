@@ -36,6 +36,10 @@ fn the_manual_says_what_the_help_says() {
         assert!(section(&page, "SH", "OPTIONS").contains(option), "{page}");
     }
     assert!(section(&page, "SS", "draw").contains("\\fIN\\fR\nThe degree: a power of two from 4 to 1024 [default: 512]\n"));
+    for command in ["draw", "demo"] {
+        let deviation = "\\fID\\fR\nThe deviation of noise [default: 215] [possible values: 107, 215, 250, 271]\n";
+        assert!(section(&page, "SS", command).contains(deviation), "{page}");
+    }
     assert!(section(&page, "SH", "FILES").starts_with("Files hold whole numbers in decimal, one a line."));
     for status in 0..=3 {
         assert!(section(&page, "SH", "\"EXIT STATUS\"").contains(&format!(".TP\n\\fB{status}\\fR\n")), "{page}");

@@ -1,6 +1,6 @@
 //! Refusals of the box, said of what was lent to it.
 
-use bliss_box::{draw_limit, CDT};
+use bliss_box::CDT;
 
 use super::*;
 
@@ -34,6 +34,11 @@ fn refusals_of_the_box_are_said() {
         fails(&["draw", "--degree", degree], 1, &format!("--degree {degree}: {problem}"));
         fails(&["demo", "--degree", degree], 1, &format!("--degree {degree}: {problem}"));
         fails(&["check-key", "--degree", degree, "--length", "1", "missing"], 1, &format!("--degree {degree}: {problem}"));
+    }
+    for deviation in ["0", "106", "108", "214", "216", "272", "18446744073709551615"] {
+        let problem = format!("--deviation {deviation}: refusal 16: the deviation is not 107, 215, 250 or 271");
+        fails(&["draw", "--deviation", deviation], 1, &problem);
+        fails(&["demo", "--deviation", deviation], 1, &problem);
     }
     for limit in ["0", "7", "129", "18446744073709551615"] {
         let problem = format!("--limit {limit}: refusal 5: at degree 4 the limit is 8 to 128");
@@ -91,7 +96,7 @@ fn a_cdt_in_the_order_of_before_is_refused_until_it_is_reordered() {
 
     assert!(Command::new("sh").args(["-c", REORDER]).current_dir(&folder).status().unwrap().success());
     assert_eq!(fs::read_to_string(&reordered).unwrap(), lines(&CDT));
-    let words = file("reordering/words", lines(&random_words(6, draw_word_count(draw_limit(4)))));
+    let words = file("reordering/words", lines(&random_words(6, draw_word_count(LIMIT))));
     let draw = |with: &[&str]| run(&[&["draw", "--degree", "4", "--words", &words], with].concat()).out;
     assert_eq!(draw(&["--cdt", &reordered]), draw(&[]));
 }
@@ -110,7 +115,10 @@ fn refusals_come_in_their_order() {
     refused(&["--cdt", &falling, "--limit", "7"], &format!("{falling}:3: refusal 3: {problem}"));
     refused(&["--limit", "7"], "--limit 7: refusal 5: at degree 4 the limit is 8 to 128");
     refused(&["--limit", "18446744073709551615"], "--limit 18446744073709551615: refusal 5: at degree 4 the limit is 8 to 128");
-    refused(&[], &format!("{words}: refusal 7: a draw wants 288 words, and it has 1 left"));
+    for (deviation, wanted) in [("107", 448), ("215", 288), ("250", 288), ("271", 288)] {
+        let problem = format!("{words}: refusal 7: a draw wants {wanted} words, and it has 1 left");
+        refused(&["--deviation", deviation], &problem);
+    }
 }
 
 #[test]

@@ -1,22 +1,22 @@
 //! `bliss-box respond`.
 
-use bliss_box::{draw_limit, Record, CDT, RESPOND_WORDS};
+use bliss_box::{Record, CDT, RESPOND_WORDS};
 
 use super::*;
 
 /// Words for a draw, and these for the response, of which word 1 of all ones rejects.
 fn words_of_a_try(seed: u64, respond_words: [u64; RESPOND_WORDS]) -> Vec<u64> {
-    [random_words(seed, draw_word_count(draw_limit(4))), respond_words.to_vec()].concat()
+    [random_words(seed, draw_word_count(LIMIT)), respond_words.to_vec()].concat()
 }
 
 #[test]
 fn responses_are_the_librarys() {
     let tries = [words_of_a_try(5, [1, u64::MAX, 0]), words_of_a_try(6, [0, u64::MAX, 0]), words_of_a_try(7, [1, 0, 0])];
-    let mut session = Session::open(4).unwrap();
+    let mut session = open(4);
     let (mut list, mut z) = (vec![], None);
     for words in &tries {
-        let (draw_words, words) = words.split_at(draw_word_count(draw_limit(4)));
-        let noise = library_draw(session, draw_limit(4), &CDT, draw_words);
+        let (draw_words, words) = words.split_at(draw_word_count(LIMIT));
+        let noise = library_draw(session, LIMIT, &CDT, draw_words);
         list.extend(noise.list());
         let responded = noise.respond(&[0, 3], &POLYNOMIAL, Secret::from(words.to_vec()), &KEY).unwrap();
         session = responded.session;

@@ -1,6 +1,7 @@
-//! Draws with the CDT for deviation 215.
+//! Draws, each with the CDT of its deviation.
 
-use bliss_box::{draw_list_length, draw_word_count, sample_count, Counts, Drawn, Refusal, Session, CDT, POLYNOMIAL};
+use bliss_box::{draw_limit, draw_list_length, draw_word_count, sample_count};
+use bliss_box::{Counts, Deviation, Drawn, Refusal, Session, POLYNOMIAL};
 
 use crate::baseline::{self, HighWord, Product, Shifted};
 use crate::random::Random;
@@ -9,6 +10,7 @@ use crate::rounds::{timed, Call, Side};
 /// What a draw is lent.
 pub struct Draw {
     pub n: usize,
+    pub deviation: Deviation,
     limit: usize,
     cdt: [u64; 20],
     polynomial: [u64; 21],
@@ -18,18 +20,18 @@ pub struct Draw {
 }
 
 impl Draw {
-    pub fn new(n: usize) -> Draw {
-        Draw::by_seed(n, n as u64)
+    pub fn new(n: usize, deviation: Deviation) -> Draw {
+        Draw::by_seed(n, deviation, n as u64)
     }
 
-    /// A limit of 4n, of which a draw makes about three quarters.
-    pub fn by_seed(n: usize, seed: u64) -> Draw {
-        let limit = 4 * n;
+    pub fn by_seed(n: usize, deviation: Deviation, seed: u64) -> Draw {
+        let limit = draw_limit(n, deviation);
         let mut random = Random::new(seed);
         Draw {
             n,
+            deviation,
             limit,
-            cdt: CDT,
+            cdt: *deviation.cdt(),
             polynomial: POLYNOMIAL,
             words: (0..draw_word_count(limit)).map(|_| random.word()).collect(),
             y: vec![0; sample_count(n)],
@@ -37,14 +39,19 @@ impl Draw {
         }
     }
 
+    fn session(&self) -> Session {
+        Session::open(self.n, self.deviation).expect("a degree")
+    }
+
     pub fn by_box(&mut self) -> Drawn {
+        let session = self.session();
         let Draw { limit, cdt, polynomial, words, y, list, .. } = self;
-        Session::open(self.n).expect("a degree").draw(*limit, cdt, polynomial, words, y, list)
+        session.draw(*limit, cdt, polynomial, words, y, list)
     }
 
     fn by_baseline<P: Product>(&mut self) -> Result<Counts, Refusal> {
+        let session = self.session();
         let Draw { limit, cdt, polynomial, words, y, list, .. } = self;
-        let session = Session::open(self.n).expect("a degree");
         baseline::draw::<P>(&session, *limit, cdt, polynomial, words, y, list)
     }
 
@@ -66,7 +73,7 @@ impl Call for Draw {
     type Left = (Counts, Vec<i32>, Vec<u32>);
 
     fn name(&self) -> String {
-        format!("draw, n = {}", self.n)
+        format!("draw, n = {}, deviation {}", self.n, self.deviation)
     }
 
     fn nanoseconds(&mut self, side: Side) -> f64 {

@@ -16,6 +16,7 @@ mod report;
 mod respond;
 mod rounds;
 
+use bliss_box::Deviation;
 use draw::Draw;
 use exponential::Exponentials;
 use key_check::KeyChecks;
@@ -28,6 +29,10 @@ use rounds::{compare, Call};
 compile_error!("the archive is built for plain x86-64, and so must the baselines be: take processor flags out of RUSTFLAGS");
 
 const DEGREES: [usize; 3] = [256, 512, 1024];
+
+/// Degrees and deviations of draws: BLISS-I's deviation, and the one at which most attempts are made.
+const DRAWS: [(usize, Deviation); 4] =
+    [(256, Deviation::D215), (512, Deviation::D215), (1024, Deviation::D215), (512, Deviation::D107)];
 
 /// Degrees and challenge lengths of key checks: BLISS-I's, and the greatest.
 const KEY_CHECKS: [(usize, usize); 2] = [(512, 23), (1024, 64)];
@@ -46,7 +51,7 @@ const GROWTH_TARGET: f64 = 4.4;
 
 fn main() {
     let mut exponentials = [Exponentials::new()];
-    let mut draws = DEGREES.map(Draw::new);
+    let mut draws = DRAWS.map(|(n, deviation)| Draw::new(n, deviation));
     let mut responds = DEGREES.map(Respond::new);
     let mut key_checks = KEY_CHECKS.map(|(n, length)| KeyChecks::new(n, length));
     let mut writes = [Writes::new(TARGET_DEGREE)];

@@ -1,7 +1,7 @@
 //! Records of signatures, written and read: a challenge of BLISS-I's length, and both halves of a response.
 
 use bliss_box::raw::{bliss_read_record, bliss_write_record, Contents, Fields};
-use bliss_box::record_length_limit;
+use bliss_box::{record_length_limit, Deviation};
 
 use crate::baseline::record::{self, fastest, plain};
 use crate::draw::Draw;
@@ -20,7 +20,7 @@ struct Signature {
 /// Signatures with noise for responses, whose values are distributed alike.
 fn signatures(n: usize) -> Vec<Signature> {
     let signature = |seed| {
-        let mut draw = Draw::by_seed(n, seed);
+        let mut draw = Draw::by_seed(n, Deviation::D215, seed);
         draw.by_box().answer.expect("a draw that is served");
         let (z1, z2) = draw.y.split_at(n);
         Signature { challenge: challenge(n), z1: z1.to_vec(), z2: z2.to_vec() }

@@ -1,6 +1,6 @@
 //! Responses that are accepted, to a challenge of BLISS-I's length.
 
-use bliss_box::{respond_list_length, sample_count, Outcome, Refusal, Session, POLYNOMIAL, RESPOND_WORDS};
+use bliss_box::{respond_list_length, sample_count, Deviation, Outcome, Refusal, Session, POLYNOMIAL, RESPOND_WORDS};
 
 use crate::baseline::{self, HighWord, Product, Shifted};
 use crate::draw::Draw;
@@ -31,7 +31,7 @@ impl Respond {
     pub fn new(n: usize) -> Respond {
         let mut random = Random::new(n as u64);
         Respond {
-            draw: Draw::new(n),
+            draw: Draw::new(n, Deviation::D215),
             challenge: challenge(n),
             polynomial: POLYNOMIAL,
             words: vec![0; RESPOND_WORDS],

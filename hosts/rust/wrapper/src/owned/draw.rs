@@ -4,7 +4,7 @@ use alloc::vec;
 use alloc::vec::Vec;
 
 use super::CallError;
-use crate::{draw_list_length, sample_count, Counts, Fault, Secret, Session};
+use crate::{draw_list_length, sample_count, Counts, Deviation, Fault, Secret, Session};
 
 /// What a draw with memory of its own leaves.
 #[derive(Debug)]
@@ -102,6 +102,12 @@ impl Noise {
     #[must_use]
     pub fn degree(&self) -> usize {
         self.session.degree()
+    }
+
+    /// The deviation that they were drawn with.
+    #[must_use]
+    pub fn deviation(&self) -> Deviation {
+        self.session.deviation()
     }
 
     /// The 2n samples in the order of their acceptance, for what a signature commits to.

@@ -37,10 +37,12 @@ impl Noise {
     /// [`Session::respond_blank`] with this noise and with words that are wiped after it, and with a z and a list of its own.
     ///
     /// ```
-    /// use bliss_box::{draw_limit, draw_word_count, OwnedDraw, Secret, Session, CDT, POLYNOMIAL, RESPOND_WORDS};
+    /// use bliss_box::{draw_limit, draw_word_count, Deviation, OwnedDraw, Secret, Session, CDT, POLYNOMIAL, RESPOND_WORDS};
     ///
-    /// let words = Secret::system_words(draw_word_count(draw_limit(512)))?;
-    /// if let OwnedDraw::Full(noise) = Session::open(512)?.draw_owned(draw_limit(512), &CDT, &POLYNOMIAL, words)? {
+    /// let limit = draw_limit(512, Deviation::D215);
+    /// let words = Secret::system_words(draw_word_count(limit))?;
+    /// let session = Session::open(512, Deviation::D215)?;
+    /// if let OwnedDraw::Full(noise) = session.draw_owned(limit, &CDT, &POLYNOMIAL, words)? {
     ///     let samples = noise.samples().to_vec();
     ///     let words = Secret::system_words(RESPOND_WORDS)?;
     ///     let blank = noise.respond_blank(&POLYNOMIAL, words, &[0; 1024])?; // the key is not used

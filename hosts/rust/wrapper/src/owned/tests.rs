@@ -4,7 +4,7 @@ use alloc::vec;
 use alloc::vec::Vec;
 
 use super::*;
-use crate::{draw_word_count, Outcome, Secret, Session, CDT, POLYNOMIAL, RESPOND_WORDS};
+use crate::{draw_word_count, Deviation, Outcome, Secret, Session, CDT, POLYNOMIAL, RESPOND_WORDS};
 
 const N: usize = 4;
 
@@ -12,7 +12,8 @@ const N: usize = 4;
 fn noise() -> Noise {
     let words = [0, 0, 1, 0].repeat(2 * N);
     assert_eq!(words.len(), draw_word_count(2 * N));
-    match Session::open(N).unwrap().draw_owned(2 * N, &CDT, &POLYNOMIAL, Secret::from(words)) {
+    let session = Session::open(N, Deviation::D215).unwrap();
+    match session.draw_owned(2 * N, &CDT, &POLYNOMIAL, Secret::from(words)) {
         Ok(OwnedDraw::Full(noise)) => noise,
         other => panic!("{other:?}"),
     }

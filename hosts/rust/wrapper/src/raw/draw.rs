@@ -28,7 +28,7 @@ pub struct Drawn {
     pub session: Session,
 }
 
-layout!(Drawn of 48 bytes: answer at 0, session at 32);
+layout!(Drawn of 56 bytes: answer at 0, session at 32);
 
 extern "C" {
     /// Draws y, and lists what it reads.

@@ -6,11 +6,13 @@
 pub struct Session {
     /// n; 0 from a refused opening.
     pub degree: usize,
-    /// Whether y is drawn.
-    pub drawn: bool,
+    /// The deviation of the noise; 0 from a refused opening.
+    pub deviation: u64,
+    /// 1: y is drawn. Any other number: it is not.
+    pub drawn: u64,
 }
 
-layout!(Session of 16 bytes: degree at 0, drawn at 8);
+layout!(Session of 24 bytes: degree at 0, deviation at 8, drawn at 16);
 
 /// `bliss_opened`.
 #[repr(C)]
@@ -22,13 +24,13 @@ pub struct Opened {
     pub session: Session,
 }
 
-layout!(Opened of 24 bytes: refusal at 0, session at 8);
+layout!(Opened of 32 bytes: refusal at 0, session at 8);
 
 extern "C" {
-    /// Opens a session of degree `n`.
+    /// Opens a session of degree `n`, for noise of a deviation.
     ///
     /// # Safety
     ///
-    /// It takes any number.
-    pub fn bliss_open(n: usize) -> Opened;
+    /// It takes any numbers.
+    pub fn bliss_open(n: usize, deviation: u64) -> Opened;
 }

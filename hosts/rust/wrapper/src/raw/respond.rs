@@ -26,7 +26,7 @@ pub struct Responded {
     pub session: Session,
 }
 
-layout!(Responded of 32 bytes: answer at 0, session at 16);
+layout!(Responded of 40 bytes: answer at 0, session at 16);
 
 extern "C" {
     /// Turns y, the key and the challenge into z or a rejection, and lists what it reads. An empty challenge is served: z is then y.

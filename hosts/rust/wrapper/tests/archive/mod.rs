@@ -20,11 +20,13 @@ pub use record::{read_record, write_record};
 pub use respond::{respond, Responded};
 
 fn given(session: Session) -> raw::Session {
-    raw::Session { degree: session.degree, drawn: session.drawn }
+    let Session { degree, deviation, drawn } = session;
+    raw::Session { degree, deviation, drawn }
 }
 
 fn handed_back(session: raw::Session) -> Session {
-    Session { degree: session.degree, drawn: session.drawn }
+    let raw::Session { degree, deviation, drawn } = session;
+    Session { degree, deviation, drawn }
 }
 
 fn guarded<T: Copy + PartialEq + From<u8>>(origin: &dyn Display, name: &str, lent: &Lent<T>) {
@@ -36,8 +38,8 @@ fn untouched<T: Copy + PartialEq + From<u8> + Debug>(origin: &dyn Display, name:
     guarded(origin, name, lent);
 }
 
-pub fn open(n: usize) -> (u32, Session) {
-    // SAFETY: the call takes any number and no pointer.
-    let opened = unsafe { raw::bliss_open(n) };
+pub fn open(n: usize, deviation: u64) -> (u32, Session) {
+    // SAFETY: the call takes any numbers and no pointer.
+    let opened = unsafe { raw::bliss_open(n, deviation) };
     (opened.refusal, handed_back(opened.session))
 }

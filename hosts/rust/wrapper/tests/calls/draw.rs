@@ -1,18 +1,27 @@
 //! Draws.
 
-use super::{shorten, spoil_polynomial, top_bits, wrong_length, BOUND, FORGED_DEGREES};
+use bliss_box::Deviation;
+
+use super::{drawn, shorten, spoil_polynomial, top_bits, wrong_length};
+use super::{BOUND, DEVIATIONS, FORGED_DEGREES, FORGED_DEVIATIONS};
 use crate::model::draw::{self, list_asked, words_asked, Attempt, Call};
-use crate::model::{Session, POLYNOMIAL};
+use crate::model::{exponential_at, Session, POLYNOMIAL};
 use crate::random::Random;
 
 /// The refusals of a draw, in an order in which they can be brought about: a length that depends on the limit after the limit,
 /// and the content of a table before its length.
-const REFUSALS: [u32; 7] = [5, 7, 8, 4, 3, 2, 1];
+const REFUSALS: [u32; 8] = [5, 7, 8, 4, 3, 2, 16, 1];
 
 /// A call with everything right, apart from a degree that may be a refused one.
 pub fn right(random: &mut Random, degree: usize) -> Call {
+    let deviation = random.pick(&DEVIATIONS);
+    right_at(random, degree, deviation)
+}
+
+/// Such a call at a given deviation.
+pub fn right_at(random: &mut Random, degree: usize, deviation: u64) -> Call {
     let limit = limit(random, degree);
-    let mut call = with_limit(random, degree, limit);
+    let mut call = with_limit(random, degree, deviation, limit);
     if random.one_in(3) {
         meet_limit(random, &mut call);
     }
@@ -23,12 +32,13 @@ pub fn right(random: &mut Random, degree: usize) -> Call {
 }
 
 /// A right call that is lent just what this limit asks for.
-pub fn with_limit(random: &mut Random, degree: usize, limit: usize) -> Call {
+pub fn with_limit(random: &mut Random, degree: usize, deviation: u64, limit: usize) -> Call {
     let ordinary = random.one_in(4);
-    let cdt = if ordinary { bliss_box::CDT.to_vec() } else { cdt(random) };
-    let words = if ordinary { any_words(random, words_asked(limit)) } else { words(random, limit, &draw::thresholds(&cdt)) };
+    let cdt = if ordinary { cdt_of(deviation) } else { cdt(random) };
+    let words =
+        if ordinary { any_words(random, words_asked(limit)) } else { words(random, deviation, limit, &draw::thresholds(&cdt)) };
     Call {
-        session: Session { degree, drawn: random.one_in(2) },
+        session: Session { degree, deviation, drawn: drawn(random) },
         limit,
         cdt,
         polynomial: POLYNOMIAL.to_vec(),
@@ -36,6 +46,30 @@ pub fn with_limit(random: &mut Random, degree: usize, limit: usize) -> Call {
         y: (0..2 * degree).map(|_| random.word() as i32).collect(),
         list: (0..list_asked(limit)).map(|_| random.word() as u32).collect(),
     }
+}
+
+/// A call by the table of the known points, with these words and just as many attempts as they are for.
+pub fn with_words(degree: usize, deviation: u64, words: Vec<u64>) -> Call {
+    let limit = words.len() / 4;
+    Call {
+        session: Session { degree, deviation, drawn: 0 },
+        limit,
+        cdt: known_points_cdt(),
+        polynomial: POLYNOMIAL.to_vec(),
+        words,
+        y: vec![-1; 2 * degree],
+        list: vec![9; list_asked(limit)],
+    }
+}
+
+/// The words of an attempt by the table of the known points.
+pub fn known_words(x: u64, word_2: u64, word_3: u64) -> [u64; 4] {
+    [x << 40, 0, word_2, word_3]
+}
+
+/// A call with every slice empty.
+pub fn with_nothing_lent(session: Session, limit: usize) -> Call {
+    Call { session, limit, cdt: vec![], polynomial: vec![], words: vec![], y: vec![], list: vec![] }
 }
 
 /// A call that may be right, or refused for one or more reasons, and these reasons.
@@ -58,7 +92,7 @@ fn limit(random: &mut Random, degree: usize) -> usize {
 /// Puts the limit at the attempt that fills y, or one below: the last attempt then decides.
 fn meet_limit(random: &mut Random, call: &mut Call) {
     let drawn = draw::draw(call);
-    if drawn.answer.attempts == 0 || !drawn.session.drawn {
+    if drawn.answer.attempts == 0 || !drawn.session.is_drawn() {
         return;
     }
     let limit = drawn.answer.attempts - usize::from(random.one_in(3));
@@ -84,11 +118,16 @@ fn known_points_cdt() -> Vec<u64> {
     (1..=10).map(|i| i << 40).chain([0; 10]).collect()
 }
 
-/// A right CDT table.
+/// The table that a host lends at this deviation.
+pub fn cdt_of(deviation: u64) -> Vec<u64> {
+    Deviation::try_from(deviation).unwrap().cdt().to_vec()
+}
+
+/// A right CDT table: that of any deviation, or another.
 pub fn cdt(random: &mut Random) -> Vec<u64> {
     let high = random.word() % BOUND;
     let mut thresholds = match random.below(8) {
-        0..=2 => return bliss_box::CDT.to_vec(),
+        0..=2 => return cdt_of(random.pick(&DEVIATIONS)),
         3 => return known_points_cdt(),
         // Equal thresholds.
         4 => vec![(random.pick(&[0, high, BOUND - 1]), random.pick(&[0, high, BOUND - 1])); 10],
@@ -108,7 +147,7 @@ fn any_words(random: &mut Random, count: usize) -> Vec<u64> {
 }
 
 /// The words of a draw by these thresholds.
-pub fn words(random: &mut Random, limit: usize, thresholds: &[u128; 10]) -> Vec<u64> {
+pub fn words(random: &mut Random, deviation: u64, limit: usize, thresholds: &[u128; 10]) -> Vec<u64> {
     let same = random.pick(&[0, u64::MAX, 3 << 62, 256]);
     match random.below(10) {
         0 => vec![same; words_asked(limit)],
@@ -116,13 +155,13 @@ pub fn words(random: &mut Random, limit: usize, thresholds: &[u128; 10]) -> Vec<
         2..=4 => any_words(random, words_asked(limit)),
         _ => {
             let accepting = random.below(5);
-            (0..limit).flat_map(|_| edge_words(random, thresholds, accepting)).collect()
+            (0..limit).flat_map(|_| edge_words(random, deviation, thresholds, accepting)).collect()
         }
     }
 }
 
 /// An attempt's words at the edges of its rules. The greater `accepting`, 0 to 4, the more attempts are accepted.
-pub fn edge_words(random: &mut Random, thresholds: &[u128; 10], accepting: usize) -> [u64; 4] {
+pub fn edge_words(random: &mut Random, deviation: u64, thresholds: &[u128; 10], accepting: usize) -> [u64; 4] {
     let d = edge_d(random, thresholds);
     let any = random.word();
     let sign_and_low = random.pick(&[0, 1, 255, 256, 257, 511, any % 512]);
@@ -130,12 +169,14 @@ pub fn edge_words(random: &mut Random, thresholds: &[u128; 10], accepting: usize
     let high = top_bits(random, (d >> 62) as u64);
     let low = top_bits(random, (d % u128::from(BOUND)) as u64);
     let mut words = [high, low, sign_and_low + (over << 9), 0];
-    let attempt = Attempt::of(words, thresholds);
+    let attempt = Attempt::of(deviation, words, thresholds);
     let (e, cut_e) = (attempt.e as u64, attempt.cut_e() as u64);
+    let other_e = exponential_at(random.pick(&DEVIATIONS), attempt.n);
+    let last = e.saturating_sub(1);
     words[3] = if random.below(5) < accepting {
-        random.pick(&[0, e - 1, cut_e.min(e - 1), any % e])
+        random.pick(&[0, last, cut_e.min(last), other_e.min(last), any % e.max(1)])
     } else {
-        random.pick(&[e - 1, e, e, e + 1, BOUND - 1, any])
+        random.pick(&[last, e, e, e + 1, other_e.saturating_sub(1).max(e), BOUND - 1, any])
     };
     words[3] = top_bits(random, words[3]);
     words
@@ -167,6 +208,7 @@ pub fn spoil(random: &mut Random, call: &mut Call, refusal: u32) -> bool {
         5 => return spoil_limit(random, call),
         7 => return shorten(random, &mut call.words, words_asked(call.limit)),
         8 => return shorten(random, &mut call.list, list_asked(call.limit)),
+        16 => call.session.deviation = random.pick(&FORGED_DEVIATIONS),
         _ => unreachable!("a draw has no refusal {refusal}"),
     }
     true

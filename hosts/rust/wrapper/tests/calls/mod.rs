@@ -8,6 +8,7 @@ pub mod respond;
 
 use std::fmt::Display;
 
+use crate::model::RESPONSE_DEVIATION;
 use crate::random::Random;
 
 /// The bound of 62 bits of a word: 2^62.
@@ -19,7 +20,16 @@ pub const DEGREES: [usize; 9] = [4, 8, 16, 32, 64, 128, 256, 512, 1024];
 const NEAR_DEGREES: [usize; 10] = [0, 1, 2, 3, 5, 6, 12, 96, 1023, 2048];
 
 /// Degrees that only a forged session has. Some of them wrap to a degree that is served, or to 0, when cut or doubled.
-const FORGED_DEGREES: [usize; 9] = [0, 12, 1 << 16, 1 << 32, (1 << 32) + 4, 1 << 62, 1 << 63, (1 << 63) + 4, usize::MAX];
+pub const FORGED_DEGREES: [usize; 9] = [0, 12, 1 << 16, 1 << 32, (1 << 32) + 4, 1 << 62, 1 << 63, (1 << 63) + 4, usize::MAX];
+
+pub const DEVIATIONS: [u64; 4] = [107, 215, 250, 271];
+
+/// Deviations that are refused: beside those that are served, and such as are taken for them when cut, 15 for 271 in eight bits.
+pub const FORGED_DEVIATIONS: [u64; 15] =
+    [0, 15, 106, 108, 214, 216, 249, 251, 270, 272, (1 << 8) + 215, (1 << 32) + 215, 1 << 63, (1 << 63) + 271, u64::MAX];
+
+/// What a session's `drawn` may hold beside 1: by none of these is anything drawn. Some of them are odd, or 1 when cut.
+pub const NOT_DRAWN: [u64; 9] = [0, 2, 3, 256, 257, (1 << 32) + 1, 1 << 63, (1 << 63) + 1, u64::MAX];
 
 /// A degree: each is half as likely as the one below it, so that most calls are short.
 pub fn degree(random: &mut Random) -> usize {
@@ -32,6 +42,15 @@ pub fn degree_of_list(random: &mut Random) -> usize {
         random.pick(&DEGREES)
     } else {
         degree(random)
+    }
+}
+
+/// A deviation for a list of calls: most often the one that has responses.
+pub fn deviation_of_list(random: &mut Random) -> u64 {
+    if random.one_in(4) {
+        random.pick(&DEVIATIONS)
+    } else {
+        RESPONSE_DEVIATION
     }
 }
 
@@ -57,6 +76,20 @@ fn any<C>(
         }
     }
     (call, reasons)
+}
+
+/// What a session's `drawn` may hold.
+pub fn drawn_numbers() -> impl Iterator<Item = u64> {
+    [1].into_iter().chain(NOT_DRAWN)
+}
+
+/// What a session's `drawn` holds: 1 as often as not.
+fn drawn(random: &mut Random) -> u64 {
+    if random.one_in(2) {
+        1
+    } else {
+        random.pick(&NOT_DRAWN)
+    }
 }
 
 /// How many positions a challenge that is not empty has: one, as many as may be, or any number between.

@@ -1,16 +1,19 @@
 //! Respond calls.
 
 use super::{either_sign, positions, shorten, spoil_polynomial, spoil_positions, spoil_values, top_bits, within, wrong_length};
-use super::{BOUND, FORGED_DEGREES};
+use super::{BOUND, FORGED_DEGREES, FORGED_DEVIATIONS, NOT_DRAWN};
 use crate::model::respond::{
     list_asked, product, Call, Response, COEFFICIENT_LIMIT, PRODUCT_LIMIT, RESPONSE_LIMIT, WORDS_ASKED,
 };
-use crate::model::{Session, POLYNOMIAL};
+use crate::model::{Session, POLYNOMIAL, RESPONSE_DEVIATION};
 use crate::random::Random;
 
-/// The refusals of a respond call, in an order in which they can be brought about: the list's length after the challenge, and
-/// the content of a buffer before its length.
-const REFUSALS: [u32; 9] = [6, 7, 8, 9, 10, 11, 4, 2, 1];
+/// The refusals of a respond call, in an order in which they can be brought about: the list's length after the challenge, the
+/// content of a buffer before its length, and a deviation that is not served after one that is.
+const REFUSALS: [u32; 11] = [6, 7, 8, 9, 10, 11, 4, 2, 17, 16, 1];
+
+/// The deviations that have no response.
+pub const OTHER_DEVIATIONS: [u64; 3] = [107, 250, 271];
 
 /// The greatest value of a key.
 pub const GREATEST_KEY: i32 = 7;
@@ -42,6 +45,12 @@ pub fn over(random: &mut Random, degree: usize, challenge: &[u32], y: &[i32]) ->
     assembled(random, degree, challenge.to_vec(), key, y.to_vec(), minus)
 }
 
+/// A call with every slice empty.
+pub fn with_nothing_lent(session: Session) -> Call {
+    let (challenge, polynomial, words, list) = (vec![], vec![], vec![], vec![]);
+    Call { session, challenge, polynomial, words, key: vec![], y: vec![], z: vec![], list }
+}
+
 /// A call that may be right, or refused for one or more reasons, and these reasons.
 pub fn any(random: &mut Random) -> (Call, Vec<u32>) {
     super::any(random, super::degree, right, &REFUSALS, spoil)
@@ -55,7 +64,7 @@ fn assembled(random: &mut Random, degree: usize, challenge: Vec<u32>, key: Vec<i
         list_length += random.below(99);
     }
     Call {
-        session: Session { degree, drawn: true },
+        session: Session { degree, deviation: RESPONSE_DEVIATION, drawn: 1 },
         challenge,
         polynomial: POLYNOMIAL.to_vec(),
         words,
@@ -307,9 +316,11 @@ pub fn spoil(random: &mut Random, call: &mut Call, refusal: u32) -> bool {
         6 => return spoil_challenge(random, call),
         7 => return shorten(random, &mut call.words, WORDS_ASKED),
         8 => return shorten(random, &mut call.list, list_asked(call.session.degree, call.challenge.len())),
-        9 => call.session.drawn = false,
+        9 => call.session.drawn = random.pick(&NOT_DRAWN),
         10 => return spoil_values(random, &mut call.key, GREATEST_KEY),
         11 => return spoil_values(random, &mut call.y, GREATEST_Y),
+        16 => call.session.deviation = random.pick(&FORGED_DEVIATIONS),
+        17 => call.session.deviation = random.pick(&OTHER_DEVIATIONS),
         _ => unreachable!("a respond call has no refusal {refusal}"),
     }
     true

@@ -37,10 +37,10 @@ pub fn same<T: PartialEq + Debug>(origin: &dyn Display, what: &str, given: &[T],
 
 impl Comparison {
     /// Opens with the box and with the model, and compares.
-    pub fn opening(&self, n: usize) -> Session {
-        let origin = format!("opening with {n}");
-        let (refusal, session) = archive::open(n);
-        let expected = model::open(n);
+    pub fn opening(&self, n: usize, deviation: u64) -> Session {
+        let origin = format!("opening with {n} and {deviation}");
+        let (refusal, session) = archive::open(n, deviation);
+        let expected = model::open(n, deviation);
         same(&origin, "the refusal", &[refusal], &[expected.0]);
         same(&origin, "the session", &[session], &[expected.1]);
         self.openings.fetch_add(1, Relaxed);

@@ -8,7 +8,7 @@ use crate::model::exponential;
 use crate::model::respond::{Call, Response, RESPONSE_LIMIT};
 
 /// The refusals of a respond call with an empty challenge.
-pub const REFUSALS: [u32; 8] = [1, 2, 4, 7, 8, 9, 10, 11];
+pub const REFUSALS: [u32; 10] = [1, 16, 17, 2, 4, 7, 8, 9, 10, 11];
 
 /// What can become of a blank response, where no more than one of its tests fails.
 const OUTCOMES: [(&str, [bool; 5]); 4] = [

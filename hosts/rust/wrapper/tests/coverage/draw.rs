@@ -1,10 +1,15 @@
 //! What draws came across.
 
-use super::{at_degree, Coverage, TOP_BITS};
+use super::session::with_drawn;
+use super::{at_degree, at_deviation, Coverage, TOP_BITS};
+use crate::calls::draw::cdt_of;
+use crate::calls::DEVIATIONS;
 use crate::model::draw::{list_asked, thresholds, words_asked, Attempt, Call, Drawn};
+use crate::model::exponential_at;
+use crate::run;
 
 /// The refusals of a draw.
-pub const REFUSALS: [u32; 7] = [1, 2, 3, 4, 5, 7, 8];
+pub const REFUSALS: [u32; 8] = [1, 16, 2, 3, 4, 5, 7, 8];
 
 /// The greatest threshold, and the greatest d.
 const GREATEST: u128 = (1 << 124) - 1;
@@ -35,9 +40,19 @@ impl Made<'_> {
     }
 }
 
+impl Attempt {
+    /// The attempt that the same words make at another deviation.
+    fn at(&self, deviation: u64) -> Attempt {
+        Attempt { deviation, e: exponential_at(deviation, self.n).into(), ..*self }
+    }
+}
+
 impl Coverage {
     /// Counts a draw that was compared.
     pub fn count_draw(&mut self, call: &Call, drawn: &Drawn) {
+        if !run::counts_cases() {
+            return;
+        }
         let refusal = drawn.answer.refusal;
         self.count_call(call.session, refusal);
         self.count_lent("words", call.words.len(), words_asked(call.limit), refusal, 7);
@@ -49,6 +64,7 @@ impl Coverage {
             let thresholds = thresholds(&call.cdt);
             let made = Made { attempts: call.words.chunks(4).zip(&drawn.attempts).collect() };
             self.count_full_or_spent(call, drawn);
+            self.count_deviation(call, &made);
             self.count_table(&thresholds);
             self.count_scans(&made, &thresholds);
             self.count_ends(&made, &thresholds);
@@ -81,16 +97,50 @@ impl Coverage {
     fn count_full_or_spent(&mut self, call: &Call, drawn: &Drawn) {
         let n = call.session.degree;
         let full = drawn.answer.accepted == 2 * n;
-        self.count(at_degree(if full { "full" } else { "spent" }, n), 1);
+        let outcome = if full { "full" } else { "spent" };
+        self.count(at_degree(outcome, n), 1);
+        self.count(at_deviation(outcome, call.session.deviation), 1);
+        self.count(with_drawn(outcome, call.session.drawn), 1);
         self.see("full on the last attempt", full && drawn.answer.attempts == call.limit);
         self.see("full, limit 2n", full && call.limit == 2 * n);
         self.see("full, limit 32n", full && call.limit == 32 * n);
-        self.see("full, y drawn before", full && call.session.drawn);
         self.see("spent, one sample short", drawn.answer.accepted == 2 * n - 1);
         self.see("spent, no sample", drawn.answer.accepted == 0);
         self.see("spent, limit 2n", !full && call.limit == 2 * n);
         self.see("spent, limit 32n", !full && call.limit == 32 * n);
-        self.see("spent, y drawn before", !full && call.session.drawn);
+    }
+
+    /// The table beside the deviation, word 3 beside e(N), and bits that tell the deviation from others.
+    fn count_deviation(&mut self, call: &Call, made: &Made) {
+        let deviation = call.session.deviation;
+        let mut count = |case: &str, times: usize| self.count(at_deviation(case, deviation), times);
+        let is_table_of = |deviation: u64| call.cdt == cdt_of(deviation);
+        let others = || DEVIATIONS.into_iter().filter(|&other| other != deviation);
+        count("the table of it", usize::from(is_table_of(deviation)));
+        count("the table of another", usize::from(others().any(is_table_of)));
+        count("the table of none", usize::from(!DEVIATIONS.into_iter().any(is_table_of)));
+
+        // At N = 0 e(N) is 2^62 by every deviation.
+        let telling: Vec<&Attempt> = made.attempts.iter().map(|&(_, a)| a).filter(|a| a.n > 0).collect();
+        let attempts = |case: &dyn Fn(&Attempt) -> bool| telling.iter().filter(|a| case(a)).count();
+        count("accepted", attempts(&|a| a.accepted()));
+        count("rejected", attempts(&|a| !a.accepted()));
+        count("word 3 at e(N) - 1", attempts(&|a| a.accepted() && a.tested + 1 == a.e));
+        count("word 3 at the cut e(N)", attempts(&|a| a.accepted() && a.tested == a.cut_e()));
+        count("word 3 at e(N)", attempts(&|a| a.tested == a.e));
+        for other in others() {
+            let case = format!("another bit than at {other}");
+            let differing: Vec<(&Attempt, Attempt)> =
+                telling.iter().map(|&a| (a, a.at(other))).filter(|(a, at_other)| a.accepted() != at_other.accepted()).collect();
+            let beside = differing.iter().filter(|(a, at_other)| a.tested == at_other.e || a.tested + 1 == at_other.e);
+            count(&case, differing.len());
+            count(&format!("{case}, word 3 beside e(N) of that"), beside.count());
+        }
+        if deviation == 107 {
+            // At the others e(N) is above 0 for every size.
+            count("e(N) = 1, word 3 at 0", attempts(&|a| a.e == 1 && a.tested == 0 && a.accepted()));
+            count("e(N) = 0, word 3 at 0", attempts(&|a| a.e == 0 && a.tested == 0));
+        }
     }
 
     fn count_table(&mut self, thresholds: &[u128]) {

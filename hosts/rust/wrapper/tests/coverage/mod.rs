@@ -6,6 +6,7 @@ mod key_check;
 mod old_order;
 mod record;
 mod respond;
+mod session;
 
 use std::collections::BTreeMap;
 
@@ -19,6 +20,7 @@ pub use key_check::REFUSALS as KEY_CHECK_REFUSALS;
 pub use record::{of_map, of_pad, READ_REFUSALS, WRITE_REFUSALS};
 pub use respond::REFUSALS as RESPOND_REFUSALS;
 pub use respond::{ACCEPTED, BY_A, BY_COSH, BY_WORD_1, BY_Z, BY_Z1};
+pub use session::{at_deviation, at_every_deviation, by_every_session, with_every_drawn};
 
 /// The top two bits of a word, which 62 of the word leaves out.
 const TOP_BITS: [u64; 4] = [0, 1, 2, 3];
@@ -51,8 +53,7 @@ impl Coverage {
         self.count("calls", 1);
         if refusal != 0 {
             self.count(refused(refusal), 1);
-            self.see("refused, y drawn", session.drawn);
-            self.see("refused, y not drawn", !session.drawn);
+            self.count_handed_back(session, refusal);
         }
     }
 

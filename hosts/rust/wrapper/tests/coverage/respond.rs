@@ -3,9 +3,10 @@
 use super::{at_degree, Coverage};
 use crate::calls::respond::{GREATEST_KEY, GREATEST_Y, GREATEST_Z1};
 use crate::model::respond::{list_asked, Call, Responded, Response, PRODUCT_LIMIT, RESPONSE_LIMIT, WORDS_ASKED};
+use crate::run;
 
 /// The refusals of a respond call.
-pub const REFUSALS: [u32; 9] = [1, 2, 4, 6, 7, 8, 9, 10, 11];
+pub const REFUSALS: [u32; 11] = [1, 16, 17, 2, 4, 6, 7, 8, 9, 10, 11];
 
 /// The five tests of a response, where it is accepted, and where one alone fails.
 pub const ACCEPTED: [bool; 5] = [true; 5];
@@ -18,6 +19,9 @@ pub const BY_Z1: [bool; 5] = [true, true, true, true, false];
 impl Coverage {
     /// Counts a respond call that was compared.
     pub fn count_respond(&mut self, call: &Call, responded: &Responded) {
+        if !run::counts_cases() {
+            return;
+        }
         let refusal = responded.answer.refusal;
         let least = list_asked(call.session.degree, call.challenge.len());
         self.count_call(call.session, refusal);

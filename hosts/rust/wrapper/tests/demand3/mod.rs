@@ -1,6 +1,7 @@
 //! The customer's third demand, as a property of the running archive: over lists of calls, each from a fresh opening, the read
 //! list tells exactly the history, and nothing but what it lists decides what the calls give.
 
+mod deviations;
 mod history;
 mod places;
 mod steps;
@@ -11,18 +12,30 @@ use std::hash::{Hash, Hasher};
 
 use bliss_box::Kind;
 
+use crate::calls::DEVIATIONS;
 use crate::comparison::Comparison;
-use crate::coverage::{at_degree, at_every_degree, Coverage, BY_Z1};
+use crate::coverage::{at_degree, at_deviation, at_every_degree, at_every_deviation, Coverage, BY_Z1};
 use crate::model::respond::{self, WORDS_ASKED};
+use crate::model::RESPONSE_DEVIATION;
 use crate::random::Random;
 use crate::run;
 use history::{history, neighbours, Event, History, DIFFERENCES};
 use places::{counterpart, different, listed};
-use steps::{calls_of, run_any, Call, Given, Step};
+use steps::{calls_of, run_any, Call, Given, Opening, Step};
 
-/// The degree of a history's opening. An empty history has any opening, and may have a refused one.
-fn degree_of(random: &mut Random, history: &History) -> usize {
-    history.first().map_or_else(|| random.pick(&[4, 8, 12]), |&(degree, _)| degree)
+pub use deviations::the_deviation_can_decide;
+
+/// An opening that a history can have: where it holds no response, at any deviation. An empty history has any opening, and may have
+/// a refused one.
+fn opening_of(random: &mut Random, history: &History) -> Opening {
+    let any_deviation = random.pick(&DEVIATIONS);
+    match history.first() {
+        None => Opening { degree: random.pick(&[4, 8, 12]), deviation: random.pick(&[any_deviation, any_deviation, 108]) },
+        Some(&(degree, _)) => {
+            let responds = history.iter().any(|(_, event)| matches!(event, Event::Respond { .. }));
+            Opening { degree, deviation: if responds { RESPONSE_DEVIATION } else { any_deviation } }
+        }
+    }
 }
 
 fn read_list(given: &[Given]) -> Vec<u32> {
@@ -62,15 +75,18 @@ pub fn read_lists_are_equal_exactly_when_histories_are(comparison: &Comparison) 
         let origin = format!("BLISS_SEED={seed}");
         let mut random = Random::new(seed);
         let history = history(&mut random);
-        let (steps, list) = listed_calls(&mut random, &origin, &history);
-        let (other_steps, other_list) = listed_calls(&mut random, &origin, &history);
+        let (opening, steps, list) = listed_calls(&mut random, &origin, &history);
+        let (other_opening, other_steps, other_list) = listed_calls(&mut random, &origin, &history);
         assert!(list == other_list, "{origin}: equal histories have different read lists");
         comparison.count_pair();
         known.compare(&origin, &history, &list);
-        count_history(&mut coverage, &history);
+        count_history(&mut coverage, opening, &history);
         count_what_differs(&mut coverage, &steps, &other_steps);
+        if !history.is_empty() {
+            coverage.count(at_deviations("equal histories", [opening.deviation, other_opening.deviation]), 1);
+        }
         for (name, neighbour) in neighbours(&mut random, &history) {
-            let (_, other_list) = listed_calls(&mut random, &origin, &neighbour);
+            let (_, _, other_list) = listed_calls(&mut random, &origin, &neighbour);
             assert!(list != other_list, "{origin}: histories that differ in {name} have equal read lists");
             comparison.count_pair();
             known.compare(&origin, &neighbour, &other_list);
@@ -81,27 +97,40 @@ pub fn read_lists_are_equal_exactly_when_histories_are(comparison: &Comparison) 
     coverage.require_what_is_counted();
     coverage.require(DIFFERENCES.map(|(_, name)| differing(name)));
     coverage.require(at_every_degree(&["draw", "response"]));
+    coverage.require(pairs_of_deviations().map(|pair| at_deviations("equal histories", pair)));
+}
+
+/// Every two deviations, the lesser first.
+fn pairs_of_deviations() -> impl Iterator<Item = [u64; 2]> {
+    let pairs = DEVIATIONS.into_iter().flat_map(|lesser| DEVIATIONS.map(|greater| [lesser, greater]));
+    pairs.filter(|[lesser, greater]| lesser < greater)
+}
+
+fn at_deviations(case: &str, mut deviations: [u64; 2]) -> String {
+    deviations.sort_unstable();
+    format!("{case} at {} and at {}", deviations[0], deviations[1])
 }
 
 fn differing(name: &str) -> String {
     format!("histories that differ in {name} alone")
 }
 
-/// A list of calls with this history, refused ones among them, and its read list.
-fn listed_calls(random: &mut Random, origin: &str, history: &History) -> (Vec<Step>, Vec<u32>) {
-    let degree = degree_of(random, history);
-    let steps = calls_of(random, degree, history, true);
-    let list = read_list(&steps::run(random, origin, degree, &steps));
-    (steps, list)
+/// A list of calls with this history, refused ones among them, with its opening and its read list.
+fn listed_calls(random: &mut Random, origin: &str, history: &History) -> (Opening, Vec<Step>, Vec<u32>) {
+    let opening = opening_of(random, history);
+    let steps = calls_of(random, opening, history, true);
+    let list = read_list(&steps::run(random, origin, opening, &steps));
+    (opening, steps, list)
 }
 
-fn count_history(coverage: &mut Coverage, history: &History) {
+fn count_history(coverage: &mut Coverage, opening: Opening, history: &History) {
     coverage.see("empty history", history.is_empty());
     coverage.see("history of four calls", history.len() == 4);
     for (degree, event) in history {
         match event {
             Event::Draw { bits } => {
                 coverage.count(at_degree("draw", *degree), 1);
+                coverage.count(at_deviation("draw", opening.deviation), 1);
                 coverage.see("full draw", history::accepted(bits) == 2 * degree);
                 coverage.see("spent draw", history::accepted(bits) < 2 * degree);
             }
@@ -153,7 +182,7 @@ struct Ran {
     origin: String,
     random: Random,
     history: History,
-    degree: usize,
+    opening: Opening,
     steps: Vec<Step>,
     given: Vec<Given>,
 }
@@ -163,27 +192,27 @@ impl Ran {
         let origin = format!("BLISS_SEED={seed}");
         let mut random = Random::new(seed);
         let history = history(&mut random);
-        let degree = degree_of(&mut random, &history);
-        let steps = calls_of(&mut random, degree, &history, false);
-        let given = steps::run(&mut random, &origin, degree, &steps);
-        Ran { origin, random, history, degree, steps, given }
+        let opening = opening_of(&mut random, &history);
+        let steps = calls_of(&mut random, opening, &history, false);
+        let given = steps::run(&mut random, &origin, opening, &steps);
+        Ran { origin, random, history, opening, steps, given }
     }
 }
 
-/// The second half: a list of calls that agrees with another at the places of the other's read list gives the same answers,
-/// sessions, samples, responses and read list.
+/// The second half: a list of calls that agrees with another of its deviation at the places of the other's read list gives the same
+/// answers, sessions, samples, responses and read list.
 pub fn what_is_not_listed_decides_nothing(comparison: &Comparison) {
     let mut coverage = Coverage::default();
     for seed in run::seeds(20) {
-        let Ran { origin, mut random, history, degree, steps, given } = Ran::of(seed);
+        let Ran { origin, mut random, history, opening, steps, given } = Ran::of(seed);
         let pairs = steps.iter().zip(&given);
         let counterparts: Vec<Step> = pairs.map(|(step, given)| counterpart(&mut random, step, &given.entries)).collect();
         assert!(
-            steps::run(&mut random, &origin, degree, &counterparts) == given,
+            steps::run(&mut random, &origin, opening, &counterparts) == given,
             "{origin}: a place that is not listed decides"
         );
         comparison.count_pair();
-        count_history(&mut coverage, &history);
+        count_history(&mut coverage, opening, &history);
         for ((step, given), counterpart) in steps.iter().zip(&given).zip(&counterparts) {
             count_what_is_free(&mut coverage, step, given, counterpart);
         }
@@ -191,6 +220,7 @@ pub fn what_is_not_listed_decides_nothing(comparison: &Comparison) {
     coverage.print("demand 3, agreement");
     coverage.require_what_is_counted();
     coverage.require(at_every_degree(&["draw", "response"]));
+    coverage.require(at_every_deviation(&["draw"]));
 }
 
 /// What a call and its counterpart are lent that is not listed, and differs.
@@ -216,14 +246,14 @@ fn count_what_is_free(coverage: &mut Coverage, step: &Step, given: &Given, count
 pub fn what_is_listed_can_decide(comparison: &Comparison) {
     let mut coverage = Coverage::default();
     for seed in run::seeds(40) {
-        let Ran { origin, mut random, degree, steps, given, .. } = Ran::of(seed);
+        let Ran { origin, mut random, opening, steps, given, .. } = Ran::of(seed);
         for (at, step) in steps.iter().enumerate() {
             for kind in [Kind::Word, Kind::Cdt, Kind::Polynomial, Kind::Key] {
                 let places = listed(&given[at].entries, kind);
                 if !places.is_empty() {
                     let place = random.pick(&places);
                     let changed = [&steps[..at], &[different(&mut random, step, kind, place)]].concat();
-                    let after = run_any(&mut random, &origin, degree, &changed);
+                    let after = run_any(&mut random, &origin, opening, &changed);
                     count_decision(&mut coverage, step, (kind, place), &given[at], &after[at]);
                     comparison.count_pair();
                 }

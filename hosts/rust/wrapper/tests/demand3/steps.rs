@@ -5,8 +5,15 @@ use crate::archive;
 use crate::calls;
 use crate::calls::respond::{GREATEST_Y, GREATEST_Z1};
 use crate::model::draw::Attempt;
-use crate::model::{self, draw, respond, Session, POLYNOMIAL};
+use crate::model::{self, draw, respond, Session, POLYNOMIAL, RESPONSE_DEVIATION};
 use crate::random::Random;
+
+/// What a list of calls is opened with.
+#[derive(Clone, Copy)]
+pub struct Opening {
+    pub degree: usize,
+    pub deviation: u64,
+}
 
 #[derive(Clone)]
 pub enum Call {
@@ -27,7 +34,7 @@ pub struct Seen {
     pub refusal: u32,
     counts: [usize; 3],
     session: Session,
-    y: Vec<i32>,
+    pub y: Vec<i32>,
     z: Vec<i32>,
 }
 
@@ -44,14 +51,14 @@ const GREATEST_EDGE_DEGREE: usize = 8;
 /// How often secrets are chosen anew until they give an accept bit. Many times fewer are enough.
 const TRIES: usize = 1000;
 
-/// A list of calls with this history, from an opening with this degree, and with any secrets, tables and limits. With `refused`,
-/// calls that are refused stand among them.
-pub fn calls_of(random: &mut Random, degree: usize, history: &History, refused: bool) -> Vec<Step> {
-    let mut session = model::open(degree).1;
+/// A list of calls with this history, from this opening, and with any secrets, tables and limits. With `refused`, calls that are
+/// refused stand among them.
+pub fn calls_of(random: &mut Random, opening: Opening, history: &History, refused: bool) -> Vec<Step> {
+    let mut session = model::open(opening.degree, opening.deviation).1;
     let mut y = Vec::new();
     let mut steps = Vec::new();
     for (at, (_, event)) in history.iter().enumerate() {
-        add_refused(random, degree, refused, &mut steps);
+        add_refused(random, opening, refused, &mut steps);
         let call = match event {
             Event::Draw { bits } => {
                 let accepted_next = matches!(history.get(at + 1), Some((_, Event::Respond { bit: true, .. })));
@@ -67,24 +74,27 @@ pub fn calls_of(random: &mut Random, degree: usize, history: &History, refused: 
         };
         steps.push(Step { call, refused: false });
     }
-    add_refused(random, degree, refused, &mut steps);
+    add_refused(random, opening, refused, &mut steps);
     steps
 }
 
 /// None, or some calls that are refused.
-fn add_refused(random: &mut Random, degree: usize, wanted: bool, steps: &mut Vec<Step>) {
+fn add_refused(random: &mut Random, opening: Opening, wanted: bool, steps: &mut Vec<Step>) {
     while wanted && random.one_in(3) {
-        steps.push(Step { call: refused_call(random, degree), refused: true });
+        steps.push(Step { call: refused_call(random, opening), refused: true });
     }
 }
 
-/// A call that every session refuses, with any y.
-fn refused_call(random: &mut Random, degree: usize) -> Call {
+/// A call that every session of this opening refuses, with any y.
+fn refused_call(random: &mut Random, opening: Opening) -> Call {
+    let Opening { degree, deviation } = opening;
     if random.one_in(2) {
         let mut call = calls::draw::right(random, degree);
         let refusal = random.pick(&[2, 3, 4, 5, 7, 8]);
         assert!(calls::draw::spoil(random, &mut call, refusal));
         Call::Draw(call)
+    } else if deviation != RESPONSE_DEVIATION && random.one_in(2) {
+        Call::Respond(calls::respond::right(random, degree))
     } else {
         let refusal = random.pick(&[2, 4, 6, 7, 8, 10, 11]);
         let mut call = calls::respond::right(random, degree);
@@ -98,19 +108,19 @@ fn refused_call(random: &mut Random, degree: usize) -> Call {
 
 /// A draw with these accept bits. Where a response is to be accepted next, the samples that come to z1 pass with a key of 0.
 fn draw_of(random: &mut Random, session: Session, bits: &[bool], accepted_next: bool) -> (draw::Call, draw::Drawn) {
-    let degree = session.degree;
+    let Session { degree, deviation, .. } = session;
     let ordinary = degree > GREATEST_EDGE_DEGREE || random.one_in(3);
-    let mut cdt = if ordinary { bliss_box::CDT.to_vec() } else { calls::draw::cdt(random) };
+    let mut cdt = if ordinary { calls::draw::cdt_of(deviation) } else { calls::draw::cdt(random) };
     if accepted_next && draw::thresholds(&cdt)[8] == 0 {
         // Its base samples are 9 and 10, and so its samples 2,304 or more.
-        cdt = bliss_box::CDT.to_vec();
+        cdt = calls::draw::cdt_of(deviation);
     }
     let thresholds = draw::thresholds(&cdt);
     let mut words = Vec::new();
     let mut samples = 0;
     for &bit in bits {
         let greatest = if accepted_next && samples < degree { GREATEST_Z1 } else { GREATEST_Y };
-        words.extend(attempt_words(random, &thresholds, ordinary, bit, greatest));
+        words.extend(attempt_words(random, deviation, &thresholds, ordinary, bit, greatest));
         samples += usize::from(bit);
     }
     let full = accepted(bits) == 2 * degree;
@@ -126,10 +136,18 @@ fn draw_of(random: &mut Random, session: Session, bits: &[bool], accepted_next: 
 }
 
 /// The words of an attempt with this accept bit, by which no greater sample is accepted than this.
-fn attempt_words(random: &mut Random, thresholds: &[u128; 10], ordinary: bool, bit: bool, greatest: i32) -> [u64; 4] {
+fn attempt_words(
+    random: &mut Random,
+    deviation: u64,
+    thresholds: &[u128; 10],
+    ordinary: bool,
+    bit: bool,
+    greatest: i32,
+) -> [u64; 4] {
     for _ in 0..TRIES {
-        let words = if ordinary { [(); 4].map(|()| random.word()) } else { calls::draw::edge_words(random, thresholds, 2) };
-        let attempt = Attempt::of(words, thresholds);
+        let words =
+            if ordinary { [(); 4].map(|()| random.word()) } else { calls::draw::edge_words(random, deviation, thresholds, 2) };
+        let attempt = Attempt::of(deviation, words, thresholds);
         if attempt.accepted() == bit && (!bit || attempt.sample().abs() <= greatest) {
             return words;
         }
@@ -157,8 +175,8 @@ fn respond_of(
 }
 
 /// Runs a list of calls on the archive, from an opening and with any y, each call being served or refused as it was made.
-pub fn run(random: &mut Random, origin: &str, degree: usize, steps: &[Step]) -> Vec<Given> {
-    let given = run_any(random, origin, degree, steps);
+pub fn run(random: &mut Random, origin: &str, opening: Opening, steps: &[Step]) -> Vec<Given> {
+    let given = run_any(random, origin, opening, steps);
     for (step, given) in steps.iter().zip(&given) {
         assert_eq!(given.seen.refusal != 0, step.refused, "{origin}: a call is served, or refused, against its making");
     }
@@ -166,9 +184,9 @@ pub fn run(random: &mut Random, origin: &str, degree: usize, steps: &[Step]) -> 
 }
 
 /// Runs a list of calls on the archive, from an opening and with any y.
-pub fn run_any(random: &mut Random, origin: &str, degree: usize, steps: &[Step]) -> Vec<Given> {
-    let (_, mut session) = archive::open(degree);
-    let mut y: Vec<i32> = (0..2 * degree).map(|_| random.word() as i32).collect();
+pub fn run_any(random: &mut Random, origin: &str, opening: Opening, steps: &[Step]) -> Vec<Given> {
+    let (_, mut session) = archive::open(opening.degree, opening.deviation);
+    let mut y: Vec<i32> = (0..2 * opening.degree).map(|_| random.word() as i32).collect();
     let mut all = Vec::new();
     for step in steps {
         let given = run_one(origin, step, session, &y);

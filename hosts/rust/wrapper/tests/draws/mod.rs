@@ -1,9 +1,12 @@
 //! Single draws.
 
-use crate::calls::{self, DEGREES};
+use crate::calls::{self, drawn_numbers, DEGREES, DEVIATIONS, FORGED_DEVIATIONS};
 use crate::comparison::Comparison;
-use crate::coverage::{at_every_degree, every_refusal, Coverage, DRAW_REFUSALS};
+use crate::coverage::{
+    at_every_degree, at_every_deviation, by_every_session, every_refusal, refused, with_every_drawn, Coverage, DRAW_REFUSALS,
+};
 use crate::model::draw::{list_asked, words_asked, Call};
+use crate::model::exponential_at;
 use crate::random::Random;
 use crate::run::{self, DEFAULT_SEED};
 
@@ -20,14 +23,38 @@ pub fn draws_are_the_models(comparison: &Comparison) {
     coverage.print("draws");
     coverage.require_what_is_counted();
     coverage.require(every_refusal(&DRAW_REFUSALS));
+    coverage.require(by_every_session(&DRAW_REFUSALS));
+    coverage.require(with_every_drawn(&DRAW_REFUSALS.map(refused)));
+    coverage.require(with_every_drawn(&["full", "spent"]));
     coverage.require(at_every_degree(&["full", "spent"]));
+    coverage.require(at_every_deviation(&["full", "spent"]));
+}
+
+/// Every size at every deviation, with word 3 at the last number that e(N) accepts, and at the first that it does not: e(N) at all N
+/// that an attempt has.
+pub fn every_size_is_the_models(comparison: &Comparison) {
+    for deviation in DEVIATIONS {
+        let accepted = |x: u64, name: &str, word_3: fn(u64) -> u64| {
+            let e = |b: u64| exponential_at(deviation, b * (b + 512 * x));
+            // Odd sizes are negative.
+            let words = (0..256).flat_map(|b| calls::draw::known_words(x, b + b % 2 * 256, word_3(e(b))));
+            let call = calls::draw::with_words(128, deviation, words.collect());
+            comparison.draw(&format!("deviation {deviation}, x = {x}, word 3 at {name}"), &call).answer.accepted
+        };
+        let at_last: usize = (0..=10).map(|x| accepted(x, "e(N) - 1", |e| e.saturating_sub(1))).sum();
+        let at_first: usize = (0..=10).map(|x| accepted(x, "e(N)", |e| e)).sum();
+        // At 107 e(N) is 0 for 139 sizes. At each x e(0) accepts every number.
+        assert_eq!(at_last, if deviation == 107 { 2816 - 139 } else { 2816 }, "deviation {deviation}");
+        assert_eq!(at_first, 11, "deviation {deviation}");
+    }
 }
 
 /// Each value of each table and each length that is checked, spoilt alone, and each end of what is served.
 pub fn each_check_alone_is_the_models(comparison: &Comparison) {
     let mut random = Random::new(DEFAULT_SEED);
     for n in DEGREES {
-        let right = calls::draw::with_limit(&mut random, n, 2 * n);
+        let deviation = random.pick(&DEVIATIONS);
+        let right = calls::draw::with_limit(&mut random, n, deviation, 2 * n);
         for (name, call) in spoilt_in_one_place(&right) {
             let drawn = comparison.draw(&format!("n = {n}, {name}"), &call);
             assert_ne!(drawn.answer.refusal, 0, "n = {n}, {name} is served");
@@ -48,7 +75,14 @@ fn changed(right: &Call, change: impl Fn(&mut Call)) -> Call {
 fn served_at_an_end(random: &mut Random, right: &Call) -> Vec<(String, Call)> {
     let n = right.session.degree;
     let mut served = vec![("nothing spoilt".into(), right.clone())];
-    served.push((format!("limit {}", 32 * n), calls::draw::with_limit(random, n, 32 * n)));
+    let deviation = right.session.deviation;
+    served.push((format!("limit {}", 32 * n), calls::draw::with_limit(random, n, deviation, 32 * n)));
+    for deviation in DEVIATIONS {
+        served.push((format!("deviation {deviation}"), changed(right, |call| call.session.deviation = deviation)));
+    }
+    for drawn in drawn_numbers() {
+        served.push((format!("drawn {drawn}"), changed(right, |call| call.session.drawn = drawn)));
+    }
     served.push(("one word more".into(), changed(right, |call| call.words.push(7))));
     served.push(("one entry more".into(), changed(right, |call| call.list.push(7))));
     served.push(("all thresholds at 0".into(), changed(right, |call| call.cdt.fill(0))));
@@ -71,6 +105,9 @@ fn spoilt_in_one_place(right: &Call) -> Vec<(String, Call)> {
     for degree in [0, n - 1, n + 1, 2048, n + (1 << 32), n + (1 << 63)] {
         add(format!("degree {degree}"), &|call| call.session.degree = degree);
     }
+    for deviation in FORGED_DEVIATIONS {
+        add(format!("deviation {deviation}"), &|call| call.session.deviation = deviation);
+    }
     for length in [0, 19, 21] {
         add(format!("CDT of {length}"), &|call| call.cdt.resize(length, (1 << 62) - 1));
     }
@@ -89,14 +126,9 @@ fn spoilt_in_one_place(right: &Call) -> Vec<(String, Call)> {
     for length in [0, list_asked(right.limit) - 1] {
         add(format!("list of {length}"), &|call| call.list.truncate(length));
     }
-    add("all slices empty".into(), &|call| *call = with_nothing_lent(call));
+    add("all slices empty".into(), &|call| *call = calls::draw::with_nothing_lent(call.session, call.limit));
     spoilt.extend(spoilt_in_a_table(right));
     spoilt
-}
-
-fn with_nothing_lent(call: &Call) -> Call {
-    let (session, limit) = (call.session, call.limit);
-    Call { session, limit, cdt: vec![], polynomial: vec![], words: vec![], y: vec![], list: vec![] }
 }
 
 fn spoilt_in_a_table(right: &Call) -> Vec<(String, Call)> {

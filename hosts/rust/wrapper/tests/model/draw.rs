@@ -2,7 +2,9 @@
 
 use std::array;
 
-use super::{degree_is_served, entry, exponential, list_polynomial, of_62, written, Session, ONE, POLYNOMIAL};
+use super::{
+    degree_is_served, deviation_is_served, entry, exponential_at, list_polynomial, of_62, written, Session, ONE, POLYNOMIAL,
+};
 
 /// The order of a CDT table's words: which ten thresholds they make.
 pub type Order = fn(&[u64]) -> [u128; 10];
@@ -15,6 +17,8 @@ pub fn thresholds(cdt: &[u64]) -> [u128; 10] {
 /// An attempt by its four words.
 #[derive(Clone, Copy, Debug, PartialEq, Eq)]
 pub struct Attempt {
+    /// The deviation of the session.
+    pub deviation: u64,
     /// The draw, from words 0 and 1.
     pub d: u128,
     /// The base sample.
@@ -25,14 +29,14 @@ pub struct Attempt {
     pub negative: bool,
     /// N = b(b + 512x).
     pub n: u64,
-    /// e(N).
+    /// e(N) at the deviation.
     pub e: u128,
     /// 62 of word 3.
     pub tested: u128,
 }
 
 impl Attempt {
-    pub fn of(words: [u64; 4], thresholds: &[u128; 10]) -> Attempt {
+    pub fn of(deviation: u64, words: [u64; 4], thresholds: &[u128; 10]) -> Attempt {
         let d = of_62(words[0]) * ONE + of_62(words[1]);
         let mut x = 0;
         for &threshold in thresholds {
@@ -43,9 +47,9 @@ impl Attempt {
         let b = words[2] % 256;
         let negative = words[2] / 256 % 2 == 1;
         let n = b * (b + 512 * x);
-        let e = u128::from(exponential(n));
+        let e = u128::from(exponential_at(deviation, n));
         let tested = of_62(words[3]);
-        Attempt { d, x, b, negative, n, e, tested }
+        Attempt { deviation, d, x, b, negative, n, e, tested }
     }
 
     pub fn size(&self) -> u64 {
@@ -127,6 +131,9 @@ fn refusal_of_draw(order: Order, call: &Call) -> u32 {
     if !degree_is_served(n) {
         return 1;
     }
+    if !deviation_is_served(call.session.deviation) {
+        return 16;
+    }
     if call.cdt.len() != 20 || call.polynomial.len() != 21 || call.y.len() != 2 * n {
         return 2;
     }
@@ -188,7 +195,7 @@ pub fn draw_in(order: Order, call: &Call) -> Drawn {
     while samples.len() < 2 * n && attempts.len() < call.limit {
         let t = attempts.len();
         let words = [call.words[4 * t], call.words[4 * t + 1], call.words[4 * t + 2], call.words[4 * t + 3]];
-        let attempt = Attempt::of(words, &thresholds);
+        let attempt = Attempt::of(call.session.deviation, words, &thresholds);
         list_attempt(&mut entries, t, samples.len());
         if attempt.accepted() {
             samples.push(attempt.sample());
@@ -200,7 +207,7 @@ pub fn draw_in(order: Order, call: &Call) -> Drawn {
     let full = samples.len() == 2 * n;
     Drawn {
         answer: Answer { refusal: 0, attempts: attempts.len(), accepted: samples.len(), entries: entries.len() },
-        session: Session { degree: n, drawn: full },
+        session: Session { drawn: u64::from(full), ..call.session },
         y: if full { samples } else { vec![0; 2 * n] },
         list: written(&call.list, &entries),
         attempts,

@@ -1,7 +1,8 @@
 //! A response, with the numbers that decide it. To an empty challenge it is blank: Sc is zero, and so z is y.
 
 use super::{
-    degree_is_served, entry, exponential, list_polynomial, of_62, written, Session, EXPONENTIAL_LIMIT, ONE, POLYNOMIAL,
+    degree_is_served, deviation_is_served, entry, exponential, list_polynomial, of_62, written, Session, EXPONENTIAL_LIMIT,
+    ONE, POLYNOMIAL, RESPONSE_DEVIATION,
 };
 
 /// The largest A of a response that is not rejected.
@@ -195,6 +196,12 @@ fn refusal_of_respond(call: &Call) -> u32 {
     if !degree_is_served(n) {
         return 1;
     }
+    if !deviation_is_served(call.session.deviation) {
+        return 16;
+    }
+    if call.session.deviation != RESPONSE_DEVIATION {
+        return 17;
+    }
     if call.polynomial.len() != 21 || call.y.len() != 2 * n || call.z.len() != 2 * n || call.key.len() != 2 * n {
         return 2;
     }
@@ -210,7 +217,7 @@ fn refusal_of_respond(call: &Call) -> u32 {
     if call.list.len() < list_asked(n, call.challenge.len()) {
         return 8;
     }
-    if !call.session.drawn {
+    if !call.session.is_drawn() {
         return 9;
     }
     if call.key.iter().any(|value| !(-7..=7).contains(value)) {
@@ -264,7 +271,7 @@ pub fn respond(call: &Call) -> Responded {
     let entries = entries_of(n, &call.challenge, bit);
     Responded {
         answer: Answer { refusal: 0, bit, entries: entries.len() },
-        session: Session { degree: n, drawn: false },
+        session: Session { drawn: 0, ..call.session },
         y: vec![0; 2 * n],
         z: if bit { response.z.iter().map(|&value| value as i32).collect() } else { vec![0; 2 * n] },
         list: written(&call.list, &entries),

@@ -6,7 +6,7 @@ use std::array;
 
 use crate::calls;
 use crate::comparison::Comparison;
-use crate::coverage::{at_every_degree, refused, Coverage, DRAW_REFUSALS};
+use crate::coverage::{at_every_degree, at_every_deviation, refused, Coverage, DRAW_REFUSALS};
 use crate::model::draw::{self, Call};
 use crate::random::Random;
 use crate::run;
@@ -43,6 +43,7 @@ pub fn reordered_tables_draw_as_before(comparison: &Comparison) {
     coverage.require_what_is_counted();
     coverage.require(DRAW_REFUSALS.map(refused));
     coverage.require(at_every_degree(&["full", "spent"]));
+    coverage.require(at_every_deviation(&["full", "spent"]));
 }
 
 /// A draw with a table of document 01's order, which may be wrong, and words at the edges of its thresholds.
@@ -50,10 +51,10 @@ fn any(random: &mut Random) -> Call {
     let degree = calls::degree(random);
     let mut call = calls::draw::right(random, degree);
     call.cdt = table(random);
-    let words = calls::draw::words(random, call.limit, &thresholds(&call.cdt));
+    let words = calls::draw::words(random, call.session.deviation, call.limit, &thresholds(&call.cdt));
     call.words[..words.len()].copy_from_slice(&words);
     if random.one_in(8) {
-        let refusal = random.pick(&[1, 2, 4, 5, 7, 8]);
+        let refusal = random.pick(&[1, 2, 4, 5, 7, 8, 16]);
         calls::draw::spoil(random, &mut call, refusal);
     }
     call

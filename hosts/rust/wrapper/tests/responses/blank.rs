@@ -15,8 +15,10 @@ const ENTRIES: usize = 47;
 type Spoilt = (&'static str, u32, fn(&mut Call));
 
 /// What is asked of a blank call as of any other, though it makes no use of the key.
-const SPOILT: [Spoilt; 14] = [
+const SPOILT: [Spoilt; 17] = [
     ("degree 12", 1, |call| call.session.degree = 12),
+    ("deviation 108", 16, |call| call.session.deviation = 108),
+    ("deviation 107", 17, |call| call.session.deviation = 107),
     ("no key", 2, |call| call.key.clear()),
     ("a key of 2n - 1", 2, |call| call.key.truncate(call.key.len() - 1)),
     ("a key of 2n + 1", 2, |call| call.key.push(0)),
@@ -26,7 +28,8 @@ const SPOILT: [Spoilt; 14] = [
     ("position n", 6, |call| call.challenge.push(call.session.degree as u32)),
     ("two words", 7, |call| call.words.truncate(2)),
     ("46 entries", 8, |call| call.list.truncate(46)),
-    ("nothing drawn", 9, |call| call.session.drawn = false),
+    ("nothing drawn", 9, |call| call.session.drawn = 0),
+    ("drawn 2", 9, |call| call.session.drawn = 2),
     ("key value 8", 10, |call| call.key[0] = 8),
     ("the last key value -8", 10, |call| *call.key.last_mut().unwrap() = -8),
     ("y value 2,816", 11, |call| call.y[0] = 2816),

@@ -2,14 +2,15 @@
 
 mod blank;
 
-use crate::calls::respond::{GREATEST_KEY, GREATEST_Y, GREATEST_Z1};
-use crate::calls::{self, places, DEGREES};
+use crate::calls::respond::{GREATEST_KEY, GREATEST_Y, GREATEST_Z1, OTHER_DEVIATIONS};
+use crate::calls::{self, places, DEGREES, FORGED_DEVIATIONS, NOT_DRAWN};
 use crate::comparison::Comparison;
 use crate::coverage::{
-    at_every_degree, every_refusal, Coverage, ACCEPTED, BLANK_REFUSALS, BY_A, BY_COSH, BY_Z, BY_Z1, RESPOND_REFUSALS,
+    at_every_degree, by_every_session, every_refusal, refused, with_every_drawn, Coverage, ACCEPTED, BLANK_REFUSALS, BY_A,
+    BY_COSH, BY_Z, BY_Z1, RESPOND_REFUSALS,
 };
 use crate::model::respond::{list_asked, product, Call, Responded, Response, WORDS_ASKED};
-use crate::model::{Session, POLYNOMIAL};
+use crate::model::{Session, POLYNOMIAL, RESPONSE_DEVIATION};
 use crate::random::Random;
 use crate::run::{self, DEFAULT_SEED};
 
@@ -34,9 +35,11 @@ pub fn responses_are_the_models(comparison: &Comparison) {
     }
     coverage.print("responses");
     blanks.print("blank responses");
+    coverage.require(with_every_drawn(&[1, 16, 17, 2, 4, 6, 7, 8].map(refused)));
     for (coverage, refusals) in [(coverage, &RESPOND_REFUSALS[..]), (blanks, &BLANK_REFUSALS[..])] {
         coverage.require_what_is_counted();
         coverage.require(every_refusal(refusals));
+        coverage.require(by_every_session(refusals));
         coverage.require(at_every_degree(&["accepted", "rejected"]));
     }
 }
@@ -44,7 +47,7 @@ pub fn responses_are_the_models(comparison: &Comparison) {
 /// A call with this key and y, the challenge 0 and all words 0: the product is the key.
 fn plain(degree: usize, key: Vec<i32>, y: Vec<i32>) -> Call {
     Call {
-        session: Session { degree, drawn: true },
+        session: Session { degree, deviation: RESPONSE_DEVIATION, drawn: 1 },
         challenge: vec![0],
         polynomial: POLYNOMIAL.to_vec(),
         words: vec![0; WORDS_ASKED],
@@ -218,6 +221,12 @@ fn spoilt_in_one_place(right: &Call) -> Vec<(String, Call)> {
     for degree in [0, n - 1, n + 1, 2048, n + (1 << 32), n + (1 << 63)] {
         add(format!("degree {degree}"), &|call| call.session.degree = degree);
     }
+    for deviation in FORGED_DEVIATIONS.into_iter().chain(OTHER_DEVIATIONS) {
+        add(format!("deviation {deviation}"), &|call| call.session.deviation = deviation);
+    }
+    for drawn in NOT_DRAWN {
+        add(format!("drawn {drawn}"), &|call| call.session.drawn = drawn);
+    }
     for place in 0..21 {
         add(format!("entry {place} too great"), &|call| call.polynomial[place] += 1);
         add(format!("entry {place} too small"), &|call| call.polynomial[place] -= 1);
@@ -244,14 +253,8 @@ fn spoilt_in_one_place(right: &Call) -> Vec<(String, Call)> {
             add(format!("y value {place} at {value}"), &|call| call.y[place] = value);
         }
     }
-    add("nothing drawn".into(), &|call| call.session.drawn = false);
-    add("all slices empty".into(), &|call| *call = with_nothing_lent(call.session));
+    add("all slices empty".into(), &|call| *call = calls::respond::with_nothing_lent(call.session));
     spoilt
-}
-
-fn with_nothing_lent(session: Session) -> Call {
-    let (challenge, polynomial, words, list) = (vec![], vec![], vec![], vec![]);
-    Call { session, challenge, polynomial, words, key: vec![], y: vec![], z: vec![], list }
 }
 
 /// Each with a list that is long enough for it.

@@ -29,3 +29,8 @@ pub fn is_whole() -> bool {
 pub fn prints_cases() -> bool {
     env::var_os("BLISS_CASES").is_some()
 }
+
+/// Whether cases are counted. A short run that prints none is shorter without.
+pub fn counts_cases() -> bool {
+    is_whole() || prints_cases()
+}

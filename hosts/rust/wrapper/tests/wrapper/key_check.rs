@@ -4,9 +4,7 @@ use std::fmt::Debug;
 
 use bliss_box::{challenge_limit, check_key, raw, sample_count, KeyCheck, Refusal, KEY_SUM_LIMIT};
 
-use crate::N;
-
-const DEGREES: [usize; 9] = [4, 8, 16, 32, 64, 128, 256, 512, 1024];
+use crate::{DEGREES, N};
 
 /// A key whose sums are worked out by hand.
 const KEY: [i32; sample_count(N)] = [1, 2, 3, 4, 0, -1, 2, -3];

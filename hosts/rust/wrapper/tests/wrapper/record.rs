@@ -2,9 +2,7 @@
 
 use bliss_box::{challenge_limit, packed_length, raw, record_length_limit, Record, Refusal, VALUE_LIMIT};
 
-use crate::N;
-
-const DEGREES: [usize; 9] = [4, 8, 16, 32, 64, 128, 256, 512, 1024];
+use crate::{DEGREES, N};
 
 /// Fields whose record is worked out by hand: 0 0000000 1, 0 0000001 1, 1 0000001 1 and 0 1111111 1; then 0 0000000 01,
 /// 1 0000000 01, and 3,263 = 25 × 128 + 63 as 0 0111111 and as 1 0111111, each with 25 zeros and a one.

@@ -1,10 +1,10 @@
 //! The response with memory that the host lends.
 
 use bliss_box::{challenge_limit, respond_list_length, sample_count};
-use bliss_box::{Outcome, Refusal, Responded, Session, COEFFICIENT_LIMIT, POLYNOMIAL, RESPOND_WORDS};
+use bliss_box::{Deviation, Outcome, Refusal, Responded, Session, COEFFICIENT_LIMIT, POLYNOMIAL, RESPOND_WORDS};
 
-use crate::draw::{draw, drawn_session};
-use crate::N;
+use crate::draw::{draw, drawn_at, drawn_session};
+use crate::{open, open_at, N};
 
 /// Responds with words of 0, which reject nothing that may pass, y of all zero before, z of all fives and a list of all nines.
 fn respond(session: Session, challenge: &[u32], key: &[i32]) -> (Responded, Vec<i32>, Vec<u32>) {
@@ -20,8 +20,7 @@ fn respond(session: Session, challenge: &[u32], key: &[i32]) -> (Responded, Vec<
 fn an_accepted_response_clears_drawn() {
     let (responded, z, list) = respond(drawn_session(), &[1], &[1, 2, 3, 4, 0, 0, 0, 7]);
     assert_eq!(responded.answer, Ok(Outcome { bit: true, entries: respond_list_length(N, 1) }));
-    assert!(!responded.session.is_drawn());
-    assert_eq!(responded.session.degree(), N);
+    assert_eq!(responded.session, open());
     assert_eq!(z, [-4, 1, 2, 3, -7, 0, 0, 0]);
     assert_eq!(list[..5], [(7 << 24) + 4, (8 << 24) + 3, 8 << 24, (8 << 24) + 1, (8 << 24) + 2]);
     assert_eq!(list.last(), Some(&((9 << 24) + 1)));
@@ -40,7 +39,7 @@ fn a_rejected_response_leaves_nothing() {
     let words = [0, u64::MAX, 0];
     let rejected = drawn_session().respond(&[0, 3], &POLYNOMIAL, &words, &[1; 8], &mut y, &mut z, &mut list);
     assert_eq!(rejected.answer, Ok(Outcome { bit: false, entries: respond_list_length(N, 2) }));
-    assert!(!rejected.session.is_drawn());
+    assert_eq!(rejected.session, open());
     assert_eq!((y, z), ([0; 8], [0; 8]));
     assert_eq!(list.last(), Some(&(9 << 24)));
 }
@@ -89,7 +88,7 @@ fn a_blank_response_is_the_noise() {
     for (key, word_0) in [(0, 0), (7, 0), (7, 1), (-7, u64::MAX)] {
         let (responded, z, list) = respond_blank(key, [word_0, 0, u64::MAX]);
         assert_eq!(responded.answer, Ok(Outcome { bit: true, entries: 47 }));
-        assert!(!responded.session.is_drawn());
+        assert_eq!(responded.session, open());
         assert_eq!(z, [1, 2, 3, 4, 5, 6, 7, 8]);
         let polynomial: Vec<u32> = (0..21).rev().map(|place| (4 << 24) + place).collect();
         let words: Vec<u32> = (0..3).map(|place| (2 << 24) + place).collect();
@@ -100,7 +99,7 @@ fn a_blank_response_is_the_noise() {
     assert_eq!((rejected.answer, z), (Ok(Outcome { bit: false, entries: 47 }), vec![0; 8]));
     let (refused, z, list) = respond_blank(8, [0; 3]);
     assert_eq!((refused.answer, z, list), (Err(Refusal::Key), vec![5; 8], vec![9; 48]));
-    assert!(refused.session.is_drawn());
+    assert_eq!(refused.session, drawn_session());
 }
 
 /// A hash that failed must not become a blank response: an empty challenge is refused where a wrong one is, and not before.
@@ -141,12 +140,34 @@ fn the_known_products_hold() {
 fn a_refused_response_hands_the_session_back() {
     let (refused, z, list) = respond(drawn_session(), &[2, 2], &[0; 8]);
     assert_eq!(refused.answer, Err(Refusal::Challenge));
-    assert!(refused.session.is_drawn());
+    assert_eq!(refused.session, drawn_session());
     assert_eq!(z, [5; 8]);
     assert_eq!(list, [9; respond_list_length(N, 2)]);
 
     let (served, ..) = respond(refused.session, &[2], &[0; 8]);
     assert_eq!(served.answer, Ok(Outcome { bit: true, entries: respond_list_length(N, 1) }));
+}
+
+/// Before all that is lent is looked at, and whether anything is drawn.
+#[test]
+fn responses_at_other_deviations_are_refused() {
+    for deviation in [Deviation::D107, Deviation::D250, Deviation::D271] {
+        let (refused, z, list) = respond(drawn_at(deviation), &[1], &[0; 8]);
+        assert_eq!(refused.answer, Err(Refusal::ResponseDeviation));
+        assert_eq!(refused.session, drawn_at(deviation));
+        assert_eq!((z, list), (vec![5; 8], vec![9; respond_list_length(N, 1)]));
+
+        let (mut y, mut z, mut list) = ([1; 8], [5; 8], [9; respond_list_length(N, 0)]);
+        let words = [0; RESPOND_WORDS];
+        let refused = drawn_at(deviation).respond_blank(&POLYNOMIAL, &words, &[0; 8], &mut y, &mut z, &mut list);
+        assert_eq!(refused.answer, Err(Refusal::ResponseDeviation));
+        assert_eq!(refused.session, drawn_at(deviation));
+        assert_eq!((y, z, list), ([1; 8], [5; 8], [9; respond_list_length(N, 0)]));
+
+        let refused = open_at(deviation).respond(&[], &[], &[], &[], &mut [], &mut [], &mut []);
+        assert_eq!(refused.answer, Err(Refusal::ResponseDeviation));
+        assert_eq!(refused.session, open_at(deviation));
+    }
 }
 
 #[test]

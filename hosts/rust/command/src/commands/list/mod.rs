@@ -8,7 +8,7 @@ mod tests;
 
 use std::iter;
 
-use bliss_box::{Entry, Kind, Session};
+use bliss_box::{Deviation, Entry, Kind, Session};
 use clap::{Args, ValueHint};
 
 use crate::ending::{Failure, Status};
@@ -73,7 +73,8 @@ fn explain(entries: &mut Entries, mut print: impl FnMut(String) -> Result<(), Fa
 /// Explains the first entry of a call. The degree is the one of the calls before, if there are any.
 fn beginning(entries: &mut Entries, degree: Option<usize>, may_respond: bool) -> Result<Entry, Failure> {
     let fits = |entry: Entry| {
-        let right_degree = degree.map_or(Session::open(entry.place()).is_ok(), |degree| entry.place() == degree);
+        let right_degree =
+            degree.map_or(Session::open(entry.place(), Deviation::D215).is_ok(), |degree| entry.place() == degree);
         right_degree && (entry.kind() == Some(Kind::Draw) || entry.kind() == Some(Kind::Response) && may_respond)
     };
     let place = degree.map_or("a power of two from 4 to 1024".into(), |degree| degree.to_string());

@@ -25,7 +25,7 @@ fn words(bits: &str) -> Secret<u64> {
 
 /// A draw with these accept bits, as many as the limit.
 fn draw(n: usize, bits: &str) -> OwnedDraw {
-    Session::open(n).unwrap().draw_owned(bits.len(), &CDT, &POLYNOMIAL, words(bits)).unwrap()
+    Session::open(n, Deviation::D215).unwrap().draw_owned(bits.len(), &CDT, &POLYNOMIAL, words(bits)).unwrap()
 }
 
 /// The read list of such a draw at degree 4.

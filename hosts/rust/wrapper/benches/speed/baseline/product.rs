@@ -11,7 +11,7 @@ pub trait Product {
     /// The whole part of (a * a + 2^61) / 2^62, for a at most 2^62.
     fn rounded_square_over_2_62(a: u64) -> u64;
 
-    /// The whole part of n * r / 2^22, for n below 2^23 and r below 2^63.
+    /// The whole part of n * r / 2^22, where that is below 2^62.
     fn over_2_22(n: u64, r: u64) -> u64;
 }
 
@@ -19,7 +19,7 @@ pub trait Product {
 pub struct Shifted;
 
 /// The factors are scaled, so that the high word of the product is the whole part and nothing is left to shift; the low word's top bit is
-/// the half that rounds a square.
+/// the half that rounds a square. The n of a draw is below 2^22, and a larger one adds r for each 2^22 in it.
 pub struct HighWord;
 
 fn wide(a: u64, b: u64) -> u128 {
@@ -63,6 +63,6 @@ impl Product for HighWord {
     }
 
     fn over_2_22(n: u64, r: u64) -> u64 {
-        high_word(n << 41, 2 * r)
+        (n >> 22) * r + high_word(n << 42, r)
     }
 }

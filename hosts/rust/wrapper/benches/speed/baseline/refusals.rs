@@ -1,8 +1,8 @@
 //! The refusals of a draw, of a response, of a key check and of a record that is written, in the documents' order. The types of the
-//! tables hold their lengths.
+//! tables hold their lengths, and a session's holds that its deviation is one of the four.
 
 use bliss_box::{challenge_limit, draw_list_length, draw_word_count, respond_list_length, sample_count};
-use bliss_box::{Refusal, Session, KEY_SUM_LIMIT, POLYNOMIAL, RESPOND_WORDS, VALUE_LIMIT};
+use bliss_box::{Deviation, Refusal, Session, KEY_SUM_LIMIT, POLYNOMIAL, RESPOND_WORDS, VALUE_LIMIT};
 
 use super::record::Fields;
 use super::words::thresholds;
@@ -38,6 +38,7 @@ pub fn check_respond(
 ) -> Result<(), Refusal> {
     let n = session.degree();
     demand(is_degree(n), Refusal::Degree)?;
+    demand(session.deviation() == Deviation::D215, Refusal::ResponseDeviation)?;
     demand([y.len(), z.len(), key.len()] == [sample_count(n); 3], Refusal::Lengths)?;
     demand(*polynomial == POLYNOMIAL, Refusal::Polynomial)?;
     demand(is_challenge(n, challenge), Refusal::Challenge)?;

@@ -2,7 +2,7 @@
 
 use bliss_box::{Kind, Outcome, Refusal, Session, COEFFICIENT_LIMIT};
 
-use super::exponential::{exponential, LIMIT};
+use super::exponential::{exponential, LIMIT, RECIPROCAL_215};
 use super::product::Product;
 use super::read_list::{entry, list_places, list_polynomial};
 use super::refusals::{all_within, check_respond};
@@ -90,8 +90,8 @@ fn add(minus: bool, y: &[i32], z: &mut [i32]) -> (u64, i64) {
 }
 
 fn accepts<P: Product>(measures: &Measures, polynomial: &[u64; 21], words: &[u64]) -> bool {
-    let e1 = exponential::<P>(SQUARES_LIMIT.saturating_sub(measures.squares), polynomial);
-    let e2 = exponential::<P>((2 * measures.inner.unsigned_abs()).min(LIMIT), polynomial);
+    let e1 = exponential::<P>(SQUARES_LIMIT.saturating_sub(measures.squares), RECIPROCAL_215, polynomial);
+    let e2 = exponential::<P>((2 * measures.inner.unsigned_abs()).min(LIMIT), RECIPROCAL_215, polynomial);
     measures.squares <= SQUARES_LIMIT
         && measures.norm <= NORM_LIMIT
         && measures.within

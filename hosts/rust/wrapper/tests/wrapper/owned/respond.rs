@@ -1,9 +1,9 @@
 //! The response with memory of its own.
 
 use bliss_box::{respond_list_length, sample_count};
-use bliss_box::{CallError, Noise, Outcome, Refusal, Secret, POLYNOMIAL, RESPOND_WORDS};
+use bliss_box::{CallError, Deviation, Noise, Outcome, Refusal, Secret, POLYNOMIAL, RESPOND_WORDS};
 
-use super::{noise, KEY};
+use super::{noise, noise_at, KEY};
 use crate::N;
 
 #[test]
@@ -54,4 +54,23 @@ fn a_refused_response_hands_the_noise_back() {
         assert_eq!(unused.list(), noise().list());
     }
     assert_eq!(respond(unused, &[0, 3]).unwrap().z, expected);
+}
+
+/// Noise that is drawn for another set can be looked at, and not responded with.
+#[test]
+fn a_response_at_another_deviation_hands_the_noise_back() {
+    for deviation in [Deviation::D107, Deviation::D250, Deviation::D271] {
+        let words = || Secret::zeroed(RESPOND_WORDS);
+        let respond = |noise: Noise| noise.respond(&[0, 3], &POLYNOMIAL, words(), &KEY);
+        let respond_blank = |noise: Noise| noise.respond_blank(&POLYNOMIAL, words(), &KEY);
+        for refused in [respond(noise_at(deviation)), respond_blank(noise_at(deviation))] {
+            let unused = match refused {
+                Err(CallError::Refused(Refusal::ResponseDeviation, unused)) => unused,
+                other => panic!("{other:?}"),
+            };
+            assert_eq!(unused.samples(), noise_at(deviation).samples());
+            assert_eq!(unused.list(), noise_at(deviation).list());
+            assert_eq!(unused.discard(), noise_at(deviation).discard());
+        }
+    }
 }
