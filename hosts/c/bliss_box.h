@@ -9,8 +9,8 @@
  * that applies, and leaves all memory and the session as they were.
  *
  * The host must guarantee what the types say, and no compiler sees: each pointer is aligned and valid for its length, for writing
- * too where it is not const; none is null, also with a length of 0; a buffer that is written overlaps no other; each bool, `drawn`
- * and those of bliss_fields, is 0 or 1. docs/HOST-GUIDE.md says more.
+ * too where it is not const; none is null, also with a length of 0; a buffer that is written overlaps no other; each bool of
+ * bliss_fields is 0 or 1. docs/HOST-GUIDE.md says more.
  *
  * Calls may run at the same time in any threads, as long as no buffer that one of them writes is used by another: nothing else is
  * shared, and a session is a value.
@@ -54,8 +54,8 @@ extern "C" {
  * C99 has no static assertions. */
 #define BLISS_LAYOUT(name, claim) typedef char bliss_layout_of_##name[(claim) ? 1 : -1]
 
-/* The version of this header, 10000 * major + 100 * minor + patch: 0.9.0. */
-#define BLISS_BOX_VERSION 900
+/* The version of this header, 10000 * major + 100 * minor + patch: 0.10.0. */
+#define BLISS_BOX_VERSION 1000
 
 /* The version of the archive, by the same rule. A host compares it with BLISS_BOX_VERSION at its start, before any other call,
  * and ends where they differ: a session travels by value, and an archive of another version may take its bytes for something
@@ -86,15 +86,21 @@ enum {
     BLISS_REFUSED_Y = 11,          /* a value of y is outside -2815 to 2815 */
     BLISS_REFUSED_KEY_SUM = 13,    /* the final sum of the key check is above 46225 */
     BLISS_REFUSED_OUTPUT = 14,     /* the output is too short for the record, or for one of its fields */
-    BLISS_REFUSED_RECORD = 15      /* a value to be recorded is outside -3263 to 3263, or the bytes are no record */
+    BLISS_REFUSED_RECORD = 15,     /* a value to be recorded is outside -3263 to 3263, or the bytes are no record */
+    BLISS_REFUSED_DEVIATION = 16,  /* the deviation, asked for or held by the session, is not 107, 215, 250 or 271 */
+    BLISS_REFUSED_RESPONSE_DEVIATION = 17
+                                   /* a response at another deviation than 215 */
 };
 
-/* A degree, and whether y is drawn. Each call takes a session and hands back the next one: use that one from then on. */
+/* A degree, the deviation of the noise, and whether y is drawn. Each call takes a session and hands back the next one, of the same
+ * degree and deviation: use that one from then on. A call takes any numbers here too. */
 typedef struct {
     size_t degree;
-    bool drawn;
+    uint64_t deviation;
+    uint64_t drawn; /* 1: y is drawn; any other number: it is not */
 } bliss_session;
-BLISS_LAYOUT(session, sizeof(bliss_session) == 16 && offsetof(bliss_session, drawn) == 8);
+BLISS_LAYOUT(session, sizeof(bliss_session) == 24 && offsetof(bliss_session, deviation) == 8 &&
+                          offsetof(bliss_session, drawn) == 16);
 
 /* The length of y, of z and of the key, at degree n. */
 #define BLISS_SAMPLES(n) (2 * BLISS_CAST(size_t, n))
@@ -149,28 +155,43 @@ typedef struct {
     uint32_t refusal;
     bliss_session session;
 } bliss_opened;
-BLISS_LAYOUT(opened, sizeof(bliss_opened) == 24 && offsetof(bliss_opened, session) == 8);
+BLISS_LAYOUT(opened, sizeof(bliss_opened) == 32 && offsetof(bliss_opened, session) == 8);
 
-/* Opens a session of degree n.
- * Gives: a session with nothing drawn; refused, one of degree 0.
- * Refuses: 1. */
+/* Opens a session of degree n, for noise of a deviation: 107, 215, 250 or 271. BLISS-I's is 215.
+ * Gives:   a session with nothing drawn; refused, one of degree 0 and deviation 0.
+ * Refuses: 1, 16, in this order. */
 BLISS_MUST_USE
-bliss_opened bliss_open(size_t n);
+bliss_opened bliss_open(size_t n, uint64_t deviation);
 
 /* ==== Draw ================================================================================================================ */
 
-/* A limit of attempts for degree n: with BLISS_CDT_215 a draw of so many is spent with a chance of at most 2^-64, at every
- * degree. */
-#define BLISS_DRAW_LIMIT(n) (4 * BLISS_CAST(size_t, n) + 56)
+/* A limit of attempts for degree n and one of the four deviations: with the deviation's CDT table a draw of so many is spent with a
+ * chance of at most 2^-64, at every degree. At 107 more attempts are rejected than at the others. */
+#define BLISS_DRAW_LIMIT(n, deviation) \
+    ((deviation) < 215 ? 6 * BLISS_CAST(size_t, n) + 88 : 4 * BLISS_CAST(size_t, n) + 56)
 
 /* The lengths of words and list that a draw asks for, with a limit of attempts. */
 #define BLISS_DRAW_WORDS(limit) (4 * BLISS_CAST(size_t, limit))
 #define BLISS_DRAW_ENTRIES(limit) (46 * BLISS_CAST(size_t, limit) + 2)
 
-/* The CDT table for deviation 215: the high words of ten thresholds, and then their ten low words. Threshold i, high * 2^62 + low,
- * is the nearest whole number to 2^124 times the chance that the base sample is below i, where j has the weight
- * exp(-65536 j^2 / 92450), j = 0 to 10. */
+/* The CDT tables for the four deviations: the high words of ten thresholds, and then their ten low words. Threshold i,
+ * high * 2^62 + low, is the nearest whole number to 2^124 times the chance that the base sample is below i, where j has the weight
+ * exp(-65536 j^2 / (2 * deviation^2)), j = 0 to 10; and at most 2^124 - 1, the most that a table can hold. A draw can't know for
+ * which deviation a table was made: lend it the one of the session's. */
 #define BLISS_CDT_WORDS 20
+#define BLISS_CDT_107                                                             \
+    {                                                                             \
+        UINT64_C(4362334117998305760), UINT64_C(4611639484469154925),             \
+            UINT64_C(4611686018399019608), UINT64_C(4611686018427387903),         \
+            UINT64_C(4611686018427387903), UINT64_C(4611686018427387903),         \
+            UINT64_C(4611686018427387903), UINT64_C(4611686018427387903),         \
+            UINT64_C(4611686018427387903), UINT64_C(4611686018427387903),         \
+            UINT64_C(4459253979531052748), UINT64_C(341877689026041016),          \
+            UINT64_C(3482958706539764376), UINT64_C(4351201523473180849),         \
+            UINT64_C(4611686018425693971), UINT64_C(4611686018427387903),         \
+            UINT64_C(4611686018427387903), UINT64_C(4611686018427387903),         \
+            UINT64_C(4611686018427387903), UINT64_C(4611686018427387903)          \
+    }
 #define BLISS_CDT_215                                                             \
     {                                                                             \
         UINT64_C(2970318119077987601), UINT64_C(4432293587828485953),             \
@@ -183,6 +204,32 @@ bliss_opened bliss_open(size_t n);
             UINT64_C(456626370962175178), UINT64_C(3423392530604428891),          \
             UINT64_C(918063073876867824), UINT64_C(4340391528176902920),          \
             UINT64_C(4611684434372927295), UINT64_C(4611686018425147250)          \
+    }
+#define BLISS_CDT_250                                                             \
+    {                                                                             \
+        UINT64_C(2675085605605972179), UINT64_C(4258673959350441631),             \
+            UINT64_C(4587189669578005161), UINT64_C(4611072138238256055),         \
+            UINT64_C(4611680569498353447), UINT64_C(4611686001414427737),         \
+            UINT64_C(4611686018408748558), UINT64_C(4611686018427380744),         \
+            UINT64_C(4611686018427387903), UINT64_C(4611686018427387903),         \
+            UINT64_C(957117754528701170), UINT64_C(724612935823953863),           \
+            UINT64_C(997982647608990581), UINT64_C(4224445832033440418),          \
+            UINT64_C(3977757405515990552), UINT64_C(4054080003283946421),         \
+            UINT64_C(3140065669762998680), UINT64_C(1636595794121743658),         \
+            UINT64_C(166482033584069584), UINT64_C(4611476289235807308)           \
+    }
+#define BLISS_CDT_271                                                             \
+    {                                                                             \
+        UINT64_C(2524529751101998032), UINT64_C(4140399764830615248),             \
+            UINT64_C(4564124880824976219), UINT64_C(4609646096313030979),         \
+            UINT64_C(4611649624005570070), UINT64_C(4611685750739980131),         \
+            UINT64_C(4611686017618684231), UINT64_C(4611686018426385920),         \
+            UINT64_C(4611686018427387395), UINT64_C(4611686018427387903),         \
+            UINT64_C(3204779551084325017), UINT64_C(3319086818929260536),         \
+            UINT64_C(470140555163569302), UINT64_C(1285599737452868265),          \
+            UINT64_C(4139614732298831022), UINT64_C(173583279901606865),          \
+            UINT64_C(3301493546787991521), UINT64_C(2850465363819686751),         \
+            UINT64_C(792812352446800470), UINT64_C(4123446333076847937)           \
     }
 
 /* What a draw counted; all 0 where it is refused. */
@@ -199,14 +246,14 @@ typedef struct {
     bliss_draw_answer answer;
     bliss_session session;
 } bliss_drawn;
-BLISS_LAYOUT(drawn, sizeof(bliss_drawn) == 48 && offsetof(bliss_drawn, session) == 32);
+BLISS_LAYOUT(drawn, sizeof(bliss_drawn) == 56 && offsetof(bliss_drawn, session) == 32);
 
 /* Draws 2n samples of Gaussian noise into y.
  * Needs:   y and list writable, and apart from each other and from the rest.
  * Gives:   full, as soon as 2n samples are accepted: y has them in the order of acceptance, and the next session is drawn; or
  *          spent, after `limit` attempts with fewer: y is all zero, and the next session is not drawn. After the checks, each
  *          read of cdt, polynomial and words is listed from the start of the list; bliss_filled gives the filled part.
- * Refuses: 1, 2, 3, 4, 5, 7, 8, in this order.
+ * Refuses: 1, 16, 2, 3, 4, 5, 7, 8, in this order.
  * Leaves:  the list behind the entries, the tables and the words; refused, everything.
  * Time:    no jump and no address depends on a word or a sample, except by the accept bits of the attempts, which the list
  *          shows.
@@ -269,7 +316,7 @@ typedef struct {
     bliss_respond_answer answer;
     bliss_session session;
 } bliss_responded;
-BLISS_LAYOUT(responded, sizeof(bliss_responded) == 32 && offsetof(bliss_responded, session) == 16);
+BLISS_LAYOUT(responded, sizeof(bliss_responded) == 40 && offsetof(bliss_responded, session) == 16);
 
 /* Turns the noise y, a key and a challenge into a response z, or into a rejection.
  * Needs:   y, z and list writable, and apart from each other and from the rest: z must not overlap y. The key is s1 and then s2,
@@ -282,7 +329,8 @@ BLISS_LAYOUT(responded, sizeof(bliss_responded) == 32 && offsetof(bliss_responde
  * Blank:   an empty challenge, of length 0, is served, for bench work. Its product is zero: bit true hands the noise back, z being
  *          what y was, and no read of the key is listed. The key must be a key all the same. A signer tests the length of its
  *          challenge before this call, so that a hash that failed hands no noise out.
- * Refuses: 1, 2, 4, 6, 7, 8, 9, 10, 11, in this order.
+ * Refuses: 1, 16, 17, 2, 4, 6, 7, 8, 9, 10, 11, in this order. The tests of a response are those of BLISS-I, whose deviation is
+ *          215: at another one there is none.
  * Leaves:  the list behind the entries, the challenge, the polynomial, the words and the key; refused, everything.
  * Time:    no jump and no address depends on words, key, y or z, except by the response's bit, which the list shows, and by
  *          refusals 10 and 11. The challenge shows, that of a rejection too.
@@ -428,7 +476,7 @@ size_t bliss_packed_length(uint32_t size);
 /* What bliss_exponential gives for a larger n: refusal 12. It is no value of e, which is at most 2^62. */
 #define BLISS_EXPONENTIAL_REFUSED ((UINT64_C(1) << 63) + 12)
 
-/* e(n), near exp(-n / 92450), as a whole number of units of 2^-62: 0 to 2^62.
+/* e(n) at deviation 215, near exp(-n / 92450), as a whole number of units of 2^-62: 0 to 2^62.
  * Gives:   e(n) for n from 0 to BLISS_EXPONENTIAL_LIMIT, within 960 units of the 64th power of the sum over j = 0..20 of
  *          (-n / 5916800)^j / j!.
  * Refuses: any other n, by BLISS_EXPONENTIAL_REFUSED.

@@ -1,9 +1,10 @@
-"""Compares the archive's exponential with exact arithmetic, at 20,000 n and at some that are refused.
+"""Compares the archive's exponentials with exact arithmetic: the one by n alone at 20,000 n and at some that are refused, and those of
+draws, at each deviation, at the N of every size of a sample.
 
-usage: exact_exponentials.py PROGRAM, which reads n, one a line, and writes each with its value (exponentials.c)
+usage: exact_exponentials.py EXPONENTIALS DRAWN, the programs of exponentials.c and drawn_exponentials.c
 
-A value must equal e(n) by document 01 and request S-7 in whole numbers, and be at most 960 units of 2^-62 from the exact
-fraction.
+A value must equal e(n) of its deviation by document 01 and requests S-7 and S-8 in whole numbers. At 20,000 n for each deviation, the N of
+every size among them, this e(n) must be at most 960 units of 2^-62 from the exact fraction.
 """
 from pathlib import Path
 from random import Random
@@ -15,48 +16,66 @@ sys.dont_write_bytecode = True
 sys.path.insert(0, str(Path(__file__).resolve().parents[2] / "crates" / "exponential_points"))
 import exact
 
-SERVED = 20000
+COMPARED = 20000
 REFUSED = [exact.LIMIT + 1, 2**23, 2**32, 2**32 + 513, 2**62, 2**63, 2**63 + 12, 2**64 - 1]
 
+# N of each size, by base sample and b.
+N_OF_SIZES = [b * (b + 512 * x) for x in range(11) for b in range(256)]
 
-def served_points():
-    """Both ends, the largest N1, where e(n) is farthest below and above the exact fraction, where it becomes 0 and where squarings
-    that cut would make it 0, every n that an attempt can have, a spread over all, and random ones."""
-    points = {*range(1000), *range(exact.LIMIT - 999, exact.LIMIT + 1), 46225, 92450, 1552, 6120}
-    points.update(range(4037100, 4037200), range(3973000, 3973100))
-    points.update(b * (b + 512 * x) for x in range(11) for b in range(256))
-    points.update(range(0, exact.LIMIT, 1009))
-    random = Random(1)
-    while len(points) < SERVED:
-        points.add(random.randint(0, exact.LIMIT))
-    return sorted(points)
+# For each deviation: where e(n) is farthest below and above the exact fraction, and where it becomes 0, if it does. At 215, where n goes on
+# to its limit by n alone, also the largest N1, twice as much, and where squarings that cut would make e(n) 0.
+EDGES = {
+    107: [3341, 1274, *range(999867, 999967)],
+    215: [1552, 6120, *range(4037100, 4037200), 46225, 92450, *range(3973000, 3973100)],
+    250: [1679, 1159],
+    271: [5347, 3148],
+}
 
 
-def values_of(program, points):
-    text = "".join(f"{n}\n" for n in points)
+def points(deviation):
+    """Both ends, the edges, the N of every size, a spread over all, and random ones."""
+    last = exact.LIMIT if deviation == 215 else max(N_OF_SIZES)
+    found = {*range(1000), *range(last - 999, last + 1), *EDGES[deviation], *N_OF_SIZES, *range(0, last, 1009)}
+    random = Random(deviation)
+    while len(found) < COMPARED:
+        found.add(random.randint(0, last))
+    return sorted(found)
+
+
+def values_of(program, keys, text=""):
+    """The values that a program writes, each behind its key: the keys must be these, in order."""
     lines = subprocess.run([program], input=text, stdout=subprocess.PIPE, text=True, check=True).stdout.splitlines()
-    pairs = [tuple(map(int, line.split())) for line in lines]
-    if [n for n, _ in pairs] != points:
+    rows = [tuple(map(int, line.split())) for line in lines]
+    if [row[:-1] for row in rows] != keys:
         sys.exit(f"{program} does not give one value for each n")
-    return pairs
+    return [row[-1] for row in rows]
 
 
-def main(program):
-    served = served_points()
-    pairs = values_of(program, served + REFUSED)
-    for n, value in pairs:
-        if value != exact.e(n):
-            sys.exit(f"the exponential of {n} is {value}, and not {exact.e(n)}")
-    distances = [(exact.distance(n, value), n) for n, value in pairs[:len(served)]]
-    for over, n in distances:
-        if not exact.within_bound(over):
-            sys.exit(f"the exponential of {n} is {exact.in_tenths(over)} units from the exact fraction")
-    (least, n_least), (most, n_most) = min(distances), max(distances)
-    print(f"exponential: {len(pairs)} values are those of exact arithmetic; {len(served)} are from {exact.in_tenths(least)} units"
-          f" (n = {n_least}) to {exact.in_tenths(most)} units (n = {n_most}) from the exact fraction")
+def compare(what, value, right):
+    if value != right:
+        sys.exit(f"{what} is {value}, and not {right}")
+
+
+def main(by_n, by_draws):
+    exponentials = {deviation: exact.Exponential(deviation) for deviation in EDGES}
+    asked = points(215) + REFUSED
+    for n, value in zip(asked, values_of(by_n, [(n,) for n in asked], "".join(f"{n}\n" for n in asked))):
+        compare(f"the exponential of {n}", value, exact.alone(n))
+    drawn = [(deviation, n) for deviation in EDGES for n in N_OF_SIZES]
+    for (deviation, n), value in zip(drawn, values_of(by_draws, drawn)):
+        compare(f"the exponential of {n} in draws at {deviation}", value, exponentials[deviation].e(n))
+    print(f"exponential: {len(asked)} values by n alone and {len(drawn)} of draws are those of exact arithmetic")
+    for deviation, exponential in exponentials.items():
+        distances = [(exponential.distance(n), n) for n in points(deviation)]
+        (least, n_least), (most, n_most) = min(distances), max(distances)
+        text = (f"at {deviation}: {len(distances)} are from {exponential.in_tenths(least)} units (n = {n_least})"
+                f" to {exponential.in_tenths(most)} units (n = {n_most}) from the exact fraction")
+        if not (exponential.within_bound(least) and exponential.within_bound(most)):
+            sys.exit(f"{text}, which is too far")
+        print(text)
 
 
 if __name__ == "__main__":
-    if len(sys.argv) != 2:
-        sys.exit("usage: exact_exponentials.py PROGRAM")
-    main(sys.argv[1])
+    if len(sys.argv) != 3:
+        sys.exit("usage: exact_exponentials.py EXPONENTIALS DRAWN")
+    main(*sys.argv[1:])

@@ -15,6 +15,9 @@
 #include <sys/random.h>
 
 static const uint64_t polynomial[BLISS_POLYNOMIAL_WORDS] = BLISS_POLYNOMIAL;
+
+/* BLISS-I's deviation, and the CDT table for it. Noise is drawn at others too, and responses are made at this one alone. */
+enum { DEVIATION = 215 };
 static const uint64_t cdt[BLISS_CDT_WORDS] = BLISS_CDT_215;
 
 /* What the host lends at one degree. The key, the words and y are secret, and so is z until it is published. */
@@ -47,7 +50,8 @@ static void *allocated(size_t count, size_t size)
 /* Buffers for degree n. A challenge has 23 positions, as BLISS-I's do, or n where that is fewer. */
 static struct buffers buffers_for(size_t n)
 {
-    struct buffers b = {.degree = n, .samples = BLISS_SAMPLES(n), .limit = BLISS_DRAW_LIMIT(n), .positions = n < 23 ? n : 23};
+    struct buffers b = {
+        .degree = n, .samples = BLISS_SAMPLES(n), .limit = BLISS_DRAW_LIMIT(n, DEVIATION), .positions = n < 23 ? n : 23};
 
     b.challenge = allocated(b.positions, sizeof *b.challenge);
     b.key = allocated(b.samples, sizeof *b.key);
@@ -184,7 +188,7 @@ static bool draw(struct buffers *b, bliss_session *session, size_t try)
            drawn.answer.entries);
     return right(bliss_draw_fits(drawn.answer, b->degree, b->draw_list, list_length),
                  "the list of the draw does not fit its answer") &&
-           right(!session->drawn || !bliss_noise_is_zero(b->y, b->samples), "the noise is all zero");
+           right(session->drawn != 1 || !bliss_noise_is_zero(b->y, b->samples), "the noise is all zero");
 }
 
 static bool respond(struct buffers *b, bliss_session *session, bliss_respond_answer *answer)
@@ -211,7 +215,7 @@ static bool respond_until_accepted(struct buffers *b, bliss_session session, siz
     for (*tries = 1;; ++*tries) {
         if (!draw(b, &session, *tries))
             return false;
-        if (!session.drawn) /* spent: there is no noise to respond with */
+        if (session.drawn != 1) /* spent: there is no noise to respond with */
             continue;
         fill_challenge(b, *tries);
         if (!respond(b, &session, answer))
@@ -262,7 +266,7 @@ int main(int argc, char **argv)
     /* Before any other call: an archive of another version may take a session for something else. */
     if (!right(bliss_version() == BLISS_BOX_VERSION, "the header and the archive are of different versions"))
         return 1;
-    opened = bliss_open(n);
+    opened = bliss_open(n, DEVIATION);
     if (!served("open", opened.refusal))
         return 1;
     generator = argc == 3 ? number_of(argv[2]) : 0;

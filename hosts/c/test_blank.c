@@ -7,7 +7,7 @@
 #include <stdio.h>
 #include <string.h>
 
-enum { MOST_DEGREE = 1024, ENTRIES = 47, GUARDS = 9 };
+enum { MOST_DEGREE = 1024, DEVIATION = 215, ENTRIES = 47, GUARDS = 9 };
 
 /* All that is lent, with room behind what depends on the degree and behind the list, and what it must be after a call. */
 struct lent {
@@ -82,7 +82,7 @@ static bool is_as_expected(void)
 /* Whether the response is served with this bit, and writes z, y and 47 entries alone. */
 static bool has_bit(size_t n, bool bit)
 {
-    bliss_responded r = responded((bliss_session){n, true}, BLISS_RESPOND_WORDS, BLISS_SAMPLES(n), ENTRIES + GUARDS);
+    bliss_responded r = responded((bliss_session){n, DEVIATION, 1}, BLISS_RESPOND_WORDS, BLISS_SAMPLES(n), ENTRIES + GUARDS);
 
     for (size_t i = 0; i < 2 * n; i++) {
         after.z[i] = bit ? after.y[i] : 0;
@@ -90,7 +90,7 @@ static bool has_bit(size_t n, bool bit)
     }
     expect_list(n, bit);
     return r.answer.refusal == BLISS_SERVED && r.answer.bit == bit && r.answer.entries == ENTRIES && r.session.degree == n &&
-           !r.session.drawn && is_as_expected();
+           r.session.deviation == DEVIATION && r.session.drawn == 0 && is_as_expected();
 }
 
 /* Whether the response is refused by this, and writes nothing. */
@@ -98,8 +98,8 @@ static bool is_refused(uint32_t refusal, bliss_session session, size_t words, si
 {
     bliss_responded r = responded(session, words, key, list);
 
-    return r.answer.refusal == refusal && !r.answer.bit && r.answer.entries == 0 && r.session.degree == session.degree &&
-           r.session.drawn == session.drawn && is_as_expected();
+    return r.answer.refusal == refusal && !r.answer.bit && r.answer.entries == 0 &&
+           memcmp(&r.session, &session, sizeof session) == 0 && is_as_expected();
 }
 
 static bool words_have_bit(size_t n, uint64_t first, uint64_t second, uint64_t third, bool bit)
@@ -115,7 +115,7 @@ static bool words_have_bit(size_t n, uint64_t first, uint64_t second, uint64_t t
  * product that is 0. Of words 1 and 2 the low 62 bits count. */
 static void test_words(size_t n)
 {
-    const uint64_t e = model_exponential(46225);
+    const uint64_t e = model_exponential(46225, DEVIATION);
     const uint64_t high = UINT64_C(3) << 62;
 
     for (uint64_t sign = 0; sign < 2; sign++) {
@@ -187,7 +187,7 @@ static bool value_is_refused(size_t n, int32_t *values, size_t place, int32_t va
 {
     prepare(n);
     values[place] = value;
-    return is_refused(refusal, (bliss_session){n, true}, BLISS_RESPOND_WORDS, BLISS_SAMPLES(n), ENTRIES);
+    return is_refused(refusal, (bliss_session){n, DEVIATION, 1}, BLISS_RESPOND_WORDS, BLISS_SAMPLES(n), ENTRIES);
 }
 
 /* Key and noise are looked at in every place. */
@@ -204,7 +204,7 @@ static void test_ranges(size_t n)
 static bool key_length_is_refused(size_t n, size_t length)
 {
     prepare(n);
-    return is_refused(BLISS_REFUSED_LENGTHS, (bliss_session){n, true}, BLISS_RESPOND_WORDS, length, ENTRIES);
+    return is_refused(BLISS_REFUSED_LENGTHS, (bliss_session){n, DEVIATION, 1}, BLISS_RESPOND_WORDS, length, ENTRIES);
 }
 
 static void test_key_lengths(size_t n)
@@ -215,30 +215,39 @@ static void test_key_lengths(size_t n)
     CHECK(n, key_length_is_refused(n, 2 * n + 1));
 }
 
-/* A set of faults has bit r where refusal r is to apply: all that a call with an empty challenge can get. */
-enum { ALL_FAULTS = 1 << 1 | 1 << 2 | 1 << 4 | 1 << 7 | 1 << 8 | 1 << 9 | 1 << 10 | 1 << 11 };
+/* A set of faults has bit r where refusal r is to apply: all that a call with an empty challenge can get, and their order. */
+enum { ALL_FAULTS = 1 << 1 | 1 << 16 | 1 << 17 | 1 << 2 | 1 << 4 | 1 << 7 | 1 << 8 | 1 << 9 | 1 << 10 | 1 << 11 };
+static const uint32_t order[] = {1, 16, 17, 2, 4, 7, 8, 9, 10, 11};
 
 static bool has(unsigned faults, unsigned refusal)
 {
     return (faults >> refusal & 1) != 0;
 }
 
+/* None of the four, one that no response is made at, or the one that responses are made at. */
+static uint64_t deviation_with(unsigned faults)
+{
+    if (has(faults, BLISS_REFUSED_DEVIATION))
+        return DEVIATION + 1;
+    return has(faults, BLISS_REFUSED_RESPONSE_DEVIATION) ? 250 : DEVIATION;
+}
+
 /* Of several faults the first counts. */
 static bool first_is_refused(size_t n, unsigned faults)
 {
-    bliss_session session = {has(faults, BLISS_REFUSED_DEGREE) ? n - 1 : n, !has(faults, BLISS_REFUSED_NOT_DRAWN)};
+    bliss_session session = {n - has(faults, BLISS_REFUSED_DEGREE), deviation_with(faults), !has(faults, BLISS_REFUSED_NOT_DRAWN)};
     size_t words = BLISS_RESPOND_WORDS - has(faults, BLISS_REFUSED_WORDS);
     size_t key = BLISS_SAMPLES(session.degree) - has(faults, BLISS_REFUSED_LENGTHS);
     size_t list = ENTRIES - has(faults, BLISS_REFUSED_LIST);
-    uint32_t first = 1;
+    const uint32_t *first = order;
 
     prepare(n);
     lent.polynomial[20] += has(faults, BLISS_REFUSED_POLYNOMIAL);
     lent.key[0] = has(faults, BLISS_REFUSED_KEY) ? 8 : 7;
     lent.y[0] = has(faults, BLISS_REFUSED_Y) ? 2816 : 2815;
-    while (!has(faults, first))
+    while (!has(faults, *first))
         first++;
-    return is_refused(first, session, words, key, list);
+    return is_refused(*first, session, words, key, list);
 }
 
 static void test_faults(size_t n)
@@ -262,7 +271,6 @@ static void test_key_check(size_t n)
 
 int main(void)
 {
-    model_fill_table();
     for (size_t n = 4; n <= MOST_DEGREE; n *= 2) {
         test_words(n);
         test_coefficients(n);

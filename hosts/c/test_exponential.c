@@ -21,9 +21,8 @@ int main(void)
 {
     int right = 1;
 
-    model_fill_table();
     for (uint64_t n = 0; n <= 5534960; n++)
-        right &= same(n, model_exponential(n));
+        right &= same(n, model_exponential(n, 215));
     for (uint64_t n = 5534961; n < 5600000; n++)
         right &= same(n, UINT64_C(9223372036854775820));
     for (unsigned shift = 23; shift < 64; shift++) {

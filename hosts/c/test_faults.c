@@ -7,7 +7,7 @@
 
 enum { DEGREE = 16, SAMPLES = 2 * DEGREE, POSITIONS = 3 };
 
-static const struct draw draw = {DEGREE, 64, SAMPLES, 11, 0};
+static const struct draw draw = {DEGREE, 215, 64, SAMPLES, 11, 0};
 static const struct response response = {DEGREE, POSITIONS, 1, BLISS_SERVED, 0};
 static const struct response blank = {DEGREE, 0, 1, BLISS_SERVED, 0};
 

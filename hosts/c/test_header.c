@@ -2,7 +2,8 @@
  * the archive it is run too, and fails where the two do not fit. */
 #include "bliss_box.h"
 
-enum { DEGREE = 4, POSITIONS = 2, LIMIT = BLISS_DRAW_LIMIT(DEGREE) };
+enum { DEGREES = 9, DEVIATIONS = 4 };
+enum { DEGREE = 4, DEVIATION = 215, POSITIONS = 2, LIMIT = BLISS_DRAW_LIMIT(DEGREE, DEVIATION) };
 
 /* Refusal 12 has no name of its own: it is told by a result of the exponential. */
 static const uint32_t refusals[] = {
@@ -22,6 +23,8 @@ static const uint32_t refusals[] = {
     BLISS_REFUSED_KEY_SUM,
     BLISS_REFUSED_OUTPUT,
     BLISS_REFUSED_RECORD,
+    BLISS_REFUSED_DEVIATION,
+    BLISS_REFUSED_RESPONSE_DEVIATION,
 };
 
 static const uint32_t kinds[] = {
@@ -31,6 +34,8 @@ static const uint32_t kinds[] = {
 
 static const uint64_t polynomial[BLISS_POLYNOMIAL_WORDS] = BLISS_POLYNOMIAL;
 static const uint64_t cdt[BLISS_CDT_WORDS] = BLISS_CDT_215;
+static const uint64_t deviations[DEVIATIONS] = {107, DEVIATION, 250, 271};
+static const uint64_t cdts[DEVIATIONS][BLISS_CDT_WORDS] = {BLISS_CDT_107, BLISS_CDT_215, BLISS_CDT_250, BLISS_CDT_271};
 static const uint32_t challenge[POSITIONS] = {0, 3};
 
 /* An attempt with words of 0 is accepted, and its sample is 0; the first has a b of 1. A response with a key of 0 is its noise,
@@ -69,14 +74,38 @@ static bool exponential_ends_at_its_limit(void)
            bliss_exponential(BLISS_EXPONENTIAL_LIMIT + 1) == BLISS_EXPONENTIAL_REFUSED;
 }
 
-static bool draw_is_full(bliss_session *session)
+/* Whether the limits for each deviation, at each degree from 4 on, are not below the smallest that is spent with a chance of at
+ * most 2^-64, and a draw takes them. */
+static bool limits_suffice(void)
 {
-    bliss_drawn drawn = bliss_draw(*session, LIMIT, cdt, BLISS_CDT_WORDS, polynomial, BLISS_POLYNOMIAL_WORDS, draw_words,
+    static const size_t smallest[DEVIATIONS][DEGREES] = {
+        {99, 130, 183, 277, 448, 767, 1370, 2525, 4764},
+        {62, 82, 118, 182, 302, 526, 954, 1780, 3391},
+        {57, 76, 109, 170, 283, 496, 902, 1687, 3221},
+        {55, 73, 105, 165, 274, 481, 877, 1643, 3140},
+    };
+
+    for (size_t d = 0; d < DEVIATIONS; d++)
+        for (size_t i = 0; i < DEGREES; i++) {
+            size_t n = BLISS_CAST(size_t, DEGREE) << i;
+            size_t limit = BLISS_DRAW_LIMIT(n, deviations[d]);
+
+            if (limit < smallest[d][i] || limit < 2 * n || limit > 32 * n)
+                return false;
+        }
+    return true;
+}
+
+static bool draw_is_full(bliss_session *session, const uint64_t *table)
+{
+    uint64_t deviation = session->deviation;
+    bliss_drawn drawn = bliss_draw(*session, LIMIT, table, BLISS_CDT_WORDS, polynomial, BLISS_POLYNOMIAL_WORDS, draw_words,
                                    BLISS_DRAW_WORDS(LIMIT), y, BLISS_SAMPLES(DEGREE), draw_list, BLISS_DRAW_ENTRIES(LIMIT));
     bliss_draw_answer answer = drawn.answer;
 
     *session = drawn.session;
-    return answer.refusal == BLISS_SERVED && answer.accepted == BLISS_SAMPLES(DEGREE) && session->drawn &&
+    return answer.refusal == BLISS_SERVED && answer.accepted == BLISS_SAMPLES(DEGREE) && session->degree == DEGREE &&
+           session->deviation == deviation && session->drawn == 1 &&
            bliss_draw_fits(answer, DEGREE, draw_list, BLISS_DRAW_ENTRIES(LIMIT)) &&
            !bliss_noise_is_zero(y, BLISS_SAMPLES(DEGREE));
 }
@@ -91,8 +120,8 @@ static bool response_has_bit(bliss_session *session, bool bit)
     bliss_respond_answer answer = responded.answer;
 
     *session = responded.session;
-    return answer.refusal == BLISS_SERVED && answer.bit == bit && !session->drawn &&
-           bliss_noise_is_zero(y, BLISS_SAMPLES(DEGREE)) &&
+    return answer.refusal == BLISS_SERVED && answer.bit == bit && session->degree == DEGREE &&
+           session->deviation == DEVIATION && session->drawn == 0 && bliss_noise_is_zero(y, BLISS_SAMPLES(DEGREE)) &&
            bliss_filled(respond_list, list_length, answer.entries) == list_length &&
            bliss_respond_fits(answer, DEGREE, POSITIONS, respond_list, list_length);
 }
@@ -100,7 +129,7 @@ static bool response_has_bit(bliss_session *session, bool bit)
 /* Whether a response has this bit whose noise is all zero but for one value: accepted it is the noise, and rejected all zero. */
 static bool value_has_bit(size_t place, int32_t value, bool bit)
 {
-    bliss_session session = {DEGREE, true};
+    bliss_session session = {DEGREE, DEVIATION, 1};
 
     y[place] = value;
     for (size_t i = 0; i < BLISS_SAMPLES(DEGREE); i++)
@@ -189,7 +218,7 @@ static bool old_cdt_is_refused(void)
     enum { SAMPLES = BLISS_SAMPLES(DEGREE), ENTRIES = BLISS_DRAW_ENTRIES(LIMIT) };
     static int32_t noise[SAMPLES];
     static uint32_t list[ENTRIES];
-    const bliss_session session = {DEGREE, true};
+    const bliss_session session = {DEGREE, DEVIATION, 1};
     bliss_drawn drawn;
 
     for (size_t i = 0; i < SAMPLES; i++)
@@ -205,7 +234,8 @@ static bool old_cdt_is_refused(void)
         if (list[i] != UINT32_MAX)
             return false;
     return drawn.answer.refusal == BLISS_REFUSED_CDT && drawn.answer.attempts == 0 && drawn.answer.accepted == 0 &&
-           drawn.answer.entries == 0 && drawn.session.degree == session.degree && drawn.session.drawn == session.drawn;
+           drawn.answer.entries == 0 && drawn.session.degree == session.degree &&
+           drawn.session.deviation == session.deviation && drawn.session.drawn == session.drawn;
 }
 
 /* The loop of docs/HOST-GUIDE.md makes the header's of it. */
@@ -223,14 +253,27 @@ static bool old_cdt_is_reordered(void)
     return true;
 }
 
+/* A draw is served at every deviation, and with the CDT of any. */
+static bool deviations_are_served(void)
+{
+    for (size_t d = 0; d < DEVIATIONS; d++)
+        for (size_t i = 0; i < DEVIATIONS; i++) {
+            bliss_opened opened = bliss_open(DEGREE, deviations[d]);
+
+            if (opened.refusal != BLISS_SERVED || !draw_is_full(&opened.session, cdts[i]))
+                return false;
+        }
+    return true;
+}
+
 int main(void)
 {
     bliss_opened opened;
 
     if (bliss_version() != BLISS_BOX_VERSION)
         return 1;
-    opened = bliss_open(DEGREE);
-    if (opened.refusal != BLISS_SERVED || !draw_is_full(&opened.session) || !response_has_bit(&opened.session, true))
+    opened = bliss_open(DEGREE, DEVIATION);
+    if (opened.refusal != BLISS_SERVED || !draw_is_full(&opened.session, cdt) || !response_has_bit(&opened.session, true))
         return 2;
     if (!exponential_ends_at_its_limit() || !key_sum_ends_at_its_limit() || !coefficients_end_at_their_limit())
         return 3;
@@ -241,5 +284,7 @@ int main(void)
     fill_old_cdt();
     if (!old_cdt_is_refused() || !old_cdt_is_reordered())
         return 6;
-    return POSITIONS <= BLISS_CHALLENGE_LIMIT(DEGREE) && BLISS_STACK_BYTES > 0 && BLISS_CHECK_KEY_STACK_BYTES > 0 ? 0 : 7;
+    if (!deviations_are_served() || !limits_suffice())
+        return 7;
+    return POSITIONS <= BLISS_CHALLENGE_LIMIT(DEGREE) && BLISS_STACK_BYTES > 0 && BLISS_CHECK_KEY_STACK_BYTES > 0 ? 0 : 8;
 }

@@ -1,4 +1,4 @@
-/* Compares the lists of a draw and of responses with those that the header's kinds and lengths make. */
+/* Compares the lists of draws and of responses with those that the header's kinds and lengths make. */
 #include "bliss_box.h"
 
 #include <stdio.h>
@@ -88,20 +88,29 @@ static int same_response(const char *call, bliss_session session, size_t positio
     return same(call, respond_list, length, responded.answer.entries);
 }
 
+/* Whether a draw at a deviation lists what every draw with its bits does: a list does not tell the deviation. */
+static int same_draw(const char *call, uint64_t deviation)
+{
+    bliss_drawn drawn;
+
+    memset(draw_list, 0, sizeof draw_list);
+    drawn = bliss_draw(bliss_open(DEGREE, deviation).session, SAMPLES, cdt, BLISS_CDT_WORDS, polynomial, BLISS_POLYNOMIAL_WORDS,
+                       words, BLISS_DRAW_WORDS(SAMPLES), y, SAMPLES, draw_list, BLISS_DRAW_ENTRIES(SAMPLES));
+    expect_draw();
+    return same(call, draw_list, BLISS_DRAW_ENTRIES(SAMPLES), drawn.answer.entries);
+}
+
 int main(void)
 {
-    bliss_drawn drawn =
-        bliss_draw(bliss_open(DEGREE).session, SAMPLES, cdt, BLISS_CDT_WORDS, polynomial, BLISS_POLYNOMIAL_WORDS, words,
-                   BLISS_DRAW_WORDS(SAMPLES), y, SAMPLES, draw_list, BLISS_DRAW_ENTRIES(SAMPLES));
-    int right;
+    const bliss_session drawn = {DEGREE, 215, 1};
+    int right = same_draw("draw at 107", 107) & same_draw("draw at 215", 215) & same_draw("draw at 250", 250) &
+                same_draw("draw at 271", 271);
 
-    expect_draw();
-    right = same("draw", draw_list, BLISS_DRAW_ENTRIES(SAMPLES), drawn.answer.entries);
-    right &= same_response("response, accepted", drawn.session, POSITIONS, true);
+    right &= same_response("response, accepted", drawn, POSITIONS, true);
     y[0] = BLISS_COEFFICIENT_LIMIT + 1;
-    right &= same_response("response, rejected by a coefficient", drawn.session, POSITIONS, false);
-    right &= same_response("blank response, accepted", drawn.session, 0, true);
+    right &= same_response("response, rejected by a coefficient", drawn, POSITIONS, false);
+    right &= same_response("blank response, accepted", drawn, 0, true);
     y[0] = BLISS_COEFFICIENT_LIMIT + 1;
-    right &= same_response("blank response, rejected by a coefficient", drawn.session, 0, false);
+    right &= same_response("blank response, rejected by a coefficient", drawn, 0, false);
     return !right;
 }

@@ -112,8 +112,9 @@ static void read_refused_record(void)
 static void make_other_calls(void)
 {
     as_chosen &= bliss_version() == BLISS_BOX_VERSION;
-    as_chosen &= bliss_open(1024).refusal == BLISS_SERVED;
-    as_chosen &= bliss_open(1023).refusal == BLISS_REFUSED_DEGREE;
+    as_chosen &= bliss_open(1024, 215).refusal == BLISS_SERVED;
+    as_chosen &= bliss_open(1023, 215).refusal == BLISS_REFUSED_DEGREE;
+    as_chosen &= bliss_open(1024, 216).refusal == BLISS_REFUSED_DEVIATION;
     as_chosen &= bliss_filled(list, 1, 1) == 1;
     as_chosen &= bliss_packed_length(BLISS_VALUE_LIMIT) == 34;
     as_chosen &= bliss_packed_length(UINT32_MAX) == 0;
@@ -217,8 +218,9 @@ int main(void)
     bool within, wiped;
 
     seed_secrets("1");
-    measure_draw("draw, full", (struct draw){1024, 2304, 2048, 15, 0});
-    measure_draw("draw, spent", (struct draw){1024, 2048, 2047, 11, 0});
+    measure_draw("draw at 107, full", (struct draw){1024, 107, 2304, 2048, 15, 0});
+    measure_draw("draw, full", (struct draw){1024, 215, 2304, 2048, 15, 0});
+    measure_draw("draw, spent", (struct draw){1024, 215, 2048, 2047, 11, 0});
     draw.limit = 2047;
     measure("draw, refused", make_refused_draw);
     measure_response("response, accepted", 64, 1, BLISS_SERVED);

@@ -4,11 +4,20 @@
 #define DRAWS_H
 
 #include "lent.h"
+#include "model.h"
 #include "secrets.h"
+
+#include <string.h>
+
+/* The deviations of draws, and the CDT table for each. */
+enum { DEVIATIONS = 4 };
+static const uint64_t deviations[DEVIATIONS] = {107, 215, 250, 271};
+static const uint64_t cdts[DEVIATIONS][BLISS_CDT_WORDS] = {BLISS_CDT_107, BLISS_CDT_215, BLISS_CDT_250, BLISS_CDT_271};
 
 /* What is public of a draw. An accept bit is 1 with a chance in sixteenths, by a generator, as long as fewer than `most` are. */
 struct draw {
     size_t n;
+    uint64_t deviation; /* and R, which a draw takes by its session alone */
     size_t limit;
     size_t most; /* 2n makes the draw full */
     uint64_t chance;
@@ -74,15 +83,17 @@ static inline uint64_t n_of_attempt(const uint64_t *w)
 }
 
 /* The words of an attempt with this accept bit and this kind of d; a minus zero has a d of 0. */
-static inline void fill_attempt(uint64_t *w, uint64_t bit, uint64_t kind)
+static inline void fill_attempt(uint64_t *w, uint64_t deviation, uint64_t bit, uint64_t kind)
 {
     uint64_t minus_zero = secret_bit() & ~bit & 1;
     u128 d = secret_draw(kind) & ((u128)minus_zero - 1);
-    /* A rejected attempt has b of 1 or more, so that e(N) is below 2^62; a minus zero has 0. */
-    uint64_t b = (1 - bit + secret_below(255 + bit)) & (minus_zero - 1);
+    /* A rejected attempt has b of 1 or more, so that e(N) is below 2^62; a minus zero has 0. An accepted one has at 107, where e(N)
+     * is 0 from N = 999917 on, b of 188 or less. */
+    uint64_t choices = !bit ? 255 : deviation == 107 ? 189 : 256;
+    uint64_t b = (1 - bit + secret_below(choices)) & (minus_zero - 1);
     uint64_t x = base_sample(d);
     uint64_t sign = (secret_bit() & (256 * x + b != 0)) | minus_zero;
-    uint64_t e = bliss_exponential(b * (b + 512 * x));
+    uint64_t e = model_exponential(b * (b + 512 * x), deviation);
     uint64_t least = e & (bit - 1) & (minus_zero - 1);
     uint64_t bound = if_bit(bit, e, (UINT64_C(1) << 62) - least);
 
@@ -92,15 +103,23 @@ static inline void fill_attempt(uint64_t *w, uint64_t bit, uint64_t kind)
     w[3] = (least + secret_at_edges(bound)) | secret_word() << 62;
 }
 
+static inline void lend_cdt(uint64_t deviation)
+{
+    for (size_t i = 0; i < DEVIATIONS; i++)
+        if (deviations[i] == deviation)
+            memcpy(cdt, cdts[i], sizeof cdt);
+}
+
 /* Fills the words of a draw, each attempt with the next kind of d. Gives the samples that it will accept. */
 static inline size_t prepare_draw_by(struct draw draw, uint64_t (*next_kind)(void))
 {
     size_t accepted = 0;
 
+    lend_cdt(draw.deviation);
     for (size_t t = 0; t < draw.limit && accepted < BLISS_SAMPLES(draw.n); t++) {
         uint64_t bit = below(next(&draw.state), 16) < draw.chance && accepted < draw.most;
 
-        fill_attempt(lent.draw_words + 4 * t, bit, next_kind());
+        fill_attempt(lent.draw_words + 4 * t, draw.deviation, bit, next_kind());
         accepted += bit;
     }
     return accepted;
@@ -115,8 +134,8 @@ static inline size_t prepare_draw(struct draw draw)
 
 static inline bliss_drawn made_draw(struct draw draw)
 {
-    return bliss_draw((bliss_session){draw.n, false}, draw.limit, cdt, BLISS_CDT_WORDS, polynomial, BLISS_POLYNOMIAL_WORDS,
-                      lent.draw_words, BLISS_DRAW_WORDS(draw.limit), lent.y, BLISS_SAMPLES(draw.n), list,
+    return bliss_draw((bliss_session){draw.n, draw.deviation, 0}, draw.limit, cdt, BLISS_CDT_WORDS, polynomial,
+                      BLISS_POLYNOMIAL_WORDS, lent.draw_words, BLISS_DRAW_WORDS(draw.limit), lent.y, BLISS_SAMPLES(draw.n), list,
                       BLISS_DRAW_ENTRIES(draw.limit));
 }
 

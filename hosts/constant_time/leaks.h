@@ -24,21 +24,10 @@ LEAK leaking_lookup(uint64_t n)
     return polynomial[n % BLISS_POLYNOMIAL_WORDS];
 }
 
-/* What the six squarings of e(n) start with. */
-static inline uint64_t before_squarings(uint64_t n)
-{
-    uint64_t v = (uint64_t)(((u128)1 << 84) / 5916800 * n >> 22);
-    uint64_t a = polynomial[20];
-
-    for (int j = 19; j >= 0; j--)
-        a = polynomial[j] - (uint64_t)((u128)a * v >> 62);
-    return a;
-}
-
-/* e(n), with squarings that cut, and go up by a jump where the fraction is a half or more. */
+/* e(n) at 215, with squarings that cut, and go up by a jump where the fraction is a half or more. */
 LEAK jumping_squarings(uint64_t n)
 {
-    volatile uint64_t a = before_squarings(n);
+    volatile uint64_t a = model_before_squarings(n, 215);
 
     for (int i = 0; i < 6; i++) {
         u128 square = (u128)a * a;

@@ -7,7 +7,9 @@
 enum { MOST_DEGREE = 1024, MOST_ATTEMPTS = 2304, MOST_POSITIONS = 64 };
 
 static const uint64_t polynomial[BLISS_POLYNOMIAL_WORDS] = BLISS_POLYNOMIAL;
-static const uint64_t cdt[BLISS_CDT_WORDS] = BLISS_CDT_215;
+
+/* Draws lend the table of their deviation. */
+static uint64_t cdt[BLISS_CDT_WORDS] = BLISS_CDT_215;
 
 static struct {
     uint64_t n;

@@ -39,7 +39,8 @@ static void call_draw(struct draw draw)
     size_t accepted = prepare_draw(draw);
     bliss_drawn drawn;
 
-    VALGRIND_PRINTF("call draw at degree %lu, %lu of %lu samples\n", draw.n, accepted, BLISS_SAMPLES(draw.n));
+    VALGRIND_PRINTF("call draw at degree %lu and deviation %lu, %lu of %lu samples\n", draw.n, draw.deviation, accepted,
+                    BLISS_SAMPLES(draw.n));
     drawn = made_draw(draw);
     show_list(drawn.answer.entries);
     as_chosen &= draw_is_chosen(draw, accepted, drawn);
@@ -60,12 +61,14 @@ static void call_respond(size_t n, size_t positions, uint64_t bit)
 static void box(void)
 {
     /* Full before the limit and with the last attempt, and spent. */
-    call_draw((struct draw){4, 128, 8, 11, 1});
-    call_draw((struct draw){4, 8, 8, 16, 2});
-    call_draw((struct draw){4, 20, 4, 5, 3});
-    call_draw((struct draw){16, 64, 32, 11, 4});
-    call_draw((struct draw){16, 64, 31, 11, 5});
-    call_draw((struct draw){1024, 2304, 2048, 15, 6});
+    for (size_t i = 0; i < DEVIATIONS; i++) {
+        call_draw((struct draw){4, deviations[i], 128, 8, 11, 1});
+        call_draw((struct draw){4, deviations[i], 8, 8, 16, 2});
+        call_draw((struct draw){4, deviations[i], 20, 4, 5, 3});
+        call_draw((struct draw){16, deviations[i], 64, 32, 11, 4});
+        call_draw((struct draw){16, deviations[i], 64, 31, 11, 5});
+    }
+    call_draw((struct draw){1024, 215, 2304, 2048, 15, 6});
     /* A challenge of length 0 makes a blank response: its key is checked, and from the first entry on not read. */
     for (uint64_t bit = 0; bit < 2; bit++) {
         call_respond(4, 0, bit);

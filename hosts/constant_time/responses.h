@@ -308,7 +308,7 @@ static inline void prepare_response(struct response r)
 
 static inline bliss_responded made_response(struct response r)
 {
-    return bliss_respond((bliss_session){r.n, r.refusal != BLISS_REFUSED_NOT_DRAWN}, challenge, r.positions, polynomial,
+    return bliss_respond((bliss_session){r.n, 215, r.refusal != BLISS_REFUSED_NOT_DRAWN}, challenge, r.positions, polynomial,
                          BLISS_POLYNOMIAL_WORDS, lent.response_words, BLISS_RESPOND_WORDS, lent.key, 2 * r.n, lent.y, 2 * r.n, z,
                          2 * r.n, list, BLISS_RESPOND_ENTRIES(r.n, r.positions));
 }

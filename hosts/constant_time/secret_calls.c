@@ -71,25 +71,59 @@ static void call_draw(struct draw draw)
 }
 
 /* Full before the limit, or with its last attempt. */
-static void draw_full(void)
+static void draw_full_at(uint64_t deviation)
 {
     for (uint64_t i = 0; i < OFTEN; i++) {
-        call_draw((struct draw){4, 128, 8, 11, i});
-        call_draw((struct draw){4, 8, 8, 16, i});
+        call_draw((struct draw){4, deviation, 128, 8, 11, i});
+        call_draw((struct draw){4, deviation, 8, 8, 16, i});
     }
-    call_draw((struct draw){512, 2048, 1024, 11, 0});
-    call_draw((struct draw){1024, 2304, 2048, 15, 0});
+}
+
+static void draw_full(void)
+{
+    draw_full_at(215);
+    call_draw((struct draw){512, 215, 2048, 1024, 11, 0});
+    call_draw((struct draw){1024, 215, 2304, 2048, 15, 0});
 }
 
 /* Spent with fewer samples, or with one too few. */
-static void draw_spent(void)
+static void draw_spent_at(uint64_t deviation)
 {
     for (uint64_t i = 0; i < OFTEN; i++) {
-        call_draw((struct draw){4, 20, 4, 5, i});
-        call_draw((struct draw){4, 40, 7, 11, i});
+        call_draw((struct draw){4, deviation, 20, 4, 5, i});
+        call_draw((struct draw){4, deviation, 40, 7, 11, i});
     }
-    call_draw((struct draw){512, 1024, 1023, 11, 0});
-    call_draw((struct draw){1024, 2048, 2047, 11, 0});
+}
+
+static void draw_spent(void)
+{
+    draw_spent_at(215);
+    call_draw((struct draw){512, 215, 1024, 1023, 11, 0});
+    call_draw((struct draw){1024, 215, 2048, 2047, 11, 0});
+}
+
+/* Both, at another deviation. It is public, and R depends on it alone: draws at two deviations may have other traces, and those at
+ * one deviation may not. */
+static void draw_at(uint64_t deviation)
+{
+    draw_full_at(deviation);
+    draw_spent_at(deviation);
+    call_draw((struct draw){64, deviation, 256, 128, 11, 0});
+}
+
+static void draw_107(void)
+{
+    draw_at(107);
+}
+
+static void draw_250(void)
+{
+    draw_at(250);
+}
+
+static void draw_271(void)
+{
+    draw_at(271);
 }
 
 static void call_respond(struct response r)
@@ -261,7 +295,7 @@ static void leak_by_rounding(uint64_t n)
 static void leaking_draw_rounding(void)
 {
     for (uint64_t i = 0; i < OFTEN; i++) {
-        prepare_draw((struct draw){4, 128, 8, 11, i});
+        prepare_draw((struct draw){4, 215, 128, 8, 11, i});
         leak_by_rounding(n_of_attempt(lent.draw_words));
     }
 }
@@ -291,7 +325,7 @@ static void leaking_n2_rounding(void)
 static void leak_by_scan(uint64_t (*scan)(const uint64_t *))
 {
     for (uint64_t i = 0; i < OFTEN; i++) {
-        prepare_draw((struct draw){4, 128, 8, 11, i});
+        prepare_draw((struct draw){4, 215, 128, 8, 11, i});
         begin_call();
         result = scan(lent.draw_words);
     }
@@ -347,6 +381,9 @@ static const struct kind {
     {"refused_12", refused_12},
     {"draw_full", draw_full},
     {"draw_spent", draw_spent},
+    {"draw_107", draw_107},
+    {"draw_250", draw_250},
+    {"draw_271", draw_271},
     {"accepted", accepted},
     {"rejected", rejected},
     {"blank_accepted", blank_accepted},

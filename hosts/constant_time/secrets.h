@@ -3,10 +3,9 @@
 #ifndef SECRETS_H
 #define SECRETS_H
 
-#include <stdint.h>
+#include "u128.h"
 
-/* An extension: C99 has no integers of 128 bits. */
-__extension__ typedef unsigned __int128 u128;
+#include <stdint.h>
 
 static uint64_t secret;
 static uint64_t turn;

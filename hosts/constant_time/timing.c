@@ -44,7 +44,8 @@ struct measurement {
     uint64_t is_random;
 };
 
-static const struct draw full = {512, 2048, 1024, 11, 0};
+static const struct draw full = {512, 215, 2048, 1024, 11, 0};
+static const struct draw full_107 = {512, 107, 2048, 1024, 11, 0};
 static const struct response accepted = {512, 23, 1, BLISS_SERVED, 0};
 static const struct response rejected = {512, 23, 0, BLISS_SERVED, 0};
 static const struct response blank_accepted = {512, 0, 1, BLISS_SERVED, 0};
@@ -70,17 +71,22 @@ static void zero_attempt(void)
 
 static void any_attempt(void)
 {
-    fill_attempt(lent.draw_words, 1, secret_turn());
+    fill_attempt(lent.draw_words, full.deviation, 1, secret_turn());
 }
 
 static void attempt_by_low_word(void)
 {
-    fill_attempt(lent.draw_words, 1, SAME_HIGH_WORD);
+    fill_attempt(lent.draw_words, full.deviation, 1, SAME_HIGH_WORD);
 }
 
 static void any_draw(void)
 {
     prepare_draw(full);
+}
+
+static void any_draw_107(void)
+{
+    prepare_draw(full_107);
 }
 
 static uint64_t any_d(void)
@@ -183,6 +189,11 @@ static uint64_t call_draw(void)
     return made_draw(full).answer.accepted;
 }
 
+static uint64_t call_draw_107(void)
+{
+    return made_draw(full_107).answer.accepted;
+}
+
 /* The bit, or 100 and the refusal. */
 static uint64_t bit_or_refusal(bliss_respond_answer answer)
 {
@@ -240,6 +251,7 @@ static uint64_t call_early_exit_check(void)
 static const struct timed all_timed[] = {
     {"bliss_exponential: n is 0, or any", zero_n, any_n, call_exponential, 0, N, 1000000, false},
     {"bliss_draw, full", any_draw, any_draw, call_draw, 1024, WORDS, 10000, false},
+    {"bliss_draw at 107, full", any_draw_107, any_draw_107, call_draw_107, 1024, WORDS, 10000, false},
     {"bliss_draw, full: by high words, or by low words", by_high_words, by_low_words, call_draw, 1024, WORDS, 10000, false},
     {"bliss_respond, bit 1", any_accepted, any_accepted, call_respond, 1, RESPONSE, 20000, false},
     {"bliss_respond, bit 0", any_rejected, any_rejected, call_respond, 0, RESPONSE, 20000, false},

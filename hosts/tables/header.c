@@ -3,10 +3,6 @@
 #include <inttypes.h>
 #include <stdio.h>
 
-/* No length is given, so that a table has the one that the header gives it. */
-static const uint64_t polynomial[] = BLISS_POLYNOMIAL;
-static const uint64_t cdt_215[] = BLISS_CDT_215;
-
 static void print(const char *name, const uint64_t *table, size_t length)
 {
     printf("# %s\n", name);
@@ -14,9 +10,19 @@ static void print(const char *name, const uint64_t *table, size_t length)
         printf("%" PRIu64 "\n", table[i]);
 }
 
+/* No length is given, so that a table has the one that the header gives it. */
+#define PRINT(name)                                        \
+    do {                                                   \
+        static const uint64_t table[] = name;              \
+        print(#name, table, sizeof table / sizeof *table); \
+    } while (0)
+
 int main(void)
 {
-    print("BLISS_POLYNOMIAL", polynomial, sizeof polynomial / sizeof polynomial[0]);
-    print("BLISS_CDT_215", cdt_215, sizeof cdt_215 / sizeof cdt_215[0]);
+    PRINT(BLISS_POLYNOMIAL);
+    PRINT(BLISS_CDT_107);
+    PRINT(BLISS_CDT_215);
+    PRINT(BLISS_CDT_250);
+    PRINT(BLISS_CDT_271);
     return 0;
 }

@@ -30,13 +30,13 @@ RUST = Language(r"//.*", r"const (\w+): \[u64; \d+\] = \[([^\]]*)\]", r"\b(\d+)\
 RATTLE = Language(r"--.*", r"(?m)^(\w+)\s*=\s*([^=\[]*)\[\]", r"\b(\d+)\b")
 
 POLYNOMIAL = rules.polynomial()
-CDT_215 = rules.cdt(215)
+CDTS = {deviation: rules.cdt(deviation) for deviation in (107, 215, 250, 271)}
 
 # The tables of each file, with what they are by their rules.
 FILES = {
-    "hosts/c/bliss_box.h": (C, {"BLISS_POLYNOMIAL": POLYNOMIAL, "BLISS_CDT_215": CDT_215}),
-    "hosts/rust/wrapper/src/tables.rs": (RUST, {"CDT": CDT_215}),
-    "crates/known_points/specs/DefaultCdt.antt": (RATTLE, {"cdt215": CDT_215}),
+    "hosts/c/bliss_box.h": (C, {"BLISS_POLYNOMIAL": POLYNOMIAL} | {f"BLISS_CDT_{deviation}": cdt for deviation, cdt in CDTS.items()}),
+    "hosts/rust/wrapper/src/tables.rs": (RUST, {"CDT": CDTS[215], "CDT_107": CDTS[107], "CDT_250": CDTS[250], "CDT_271": CDTS[271]}),
+    "crates/known_points/specs/DefaultCdt.antt": (RATTLE, {f"cdt{deviation}": cdt for deviation, cdt in CDTS.items()}),
 }
 
 

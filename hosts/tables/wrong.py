@@ -2,8 +2,9 @@
 
 usage: wrong.py
 
-Each digit is replaced by each other digit, words are dropped, doubled and swapped, those of a CDT are put into other orders and its
-thresholds rounded to four and to seven decimals, and a table gets another name. No file is changed.
+Each digit is replaced by each other digit, words are dropped, doubled and swapped, those of a CDT are put into other orders, its
+thresholds are rounded to four and to seven decimals, it is replaced by those of other deviations, and a table gets another name. No file
+is changed.
 """
 from itertools import combinations
 import sys
@@ -53,7 +54,8 @@ def wrong_tables(rule):
     yield from wrong_digits(right)
     yield from wrong_words(right)
     if rule != shipped.POLYNOMIAL:
-        for cdt in (*other_orders(rule), rounded(rule, 4), rounded(rule, 7)):
+        others = (cdt for cdt in shipped.CDTS.values() if cdt != rule)
+        for cdt in (*other_orders(rule), rounded(rule, 4), rounded(rule, 7), *others):
             yield [str(number) for number in cdt]
 
 
