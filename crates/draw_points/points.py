@@ -3,8 +3,8 @@
 points.py stdin prints rows of 23 columns of 16 hexadecimal digits: a CDT table, a polynomial table, then the draws over them, whose number
 is the last column of the CDT table's row. points.py stdout prints the outcome of each draw: the refusal of the opening, the answer
 (refusal, attempts, accepted, entries), the next session (degree, deviation, drawn), y, and the read list (length, first and last entry of
-its filled part, and a sum over the whole of its memory). y is a part of nine values that start as fives, and the list a part of 5,940 entries that
-start as sevens.
+its filled part, and a sum over the whole of its memory). y is a part of nine values that start as fives, and the list a part of 5,940
+entries that start as sevens.
 """
 import sys
 from itertools import groupby

@@ -9,8 +9,8 @@ use crate::output;
 
 /// Prints e(N), the exponential by which noise and responses are accepted.
 ///
-/// e(N) is exp(-N / 92450), nearly, worked out in whole numbers: that of BLISS-I's deviation, 215. It is printed in units of 2^-62, and as a decimal fraction that is
-/// cut, and not rounded, after 20 digits.
+/// e(N) is exp(-N / 92450), nearly, worked out in whole numbers: that of BLISS-I's deviation, 215. It is printed in units
+/// of 2^-62, and as a decimal fraction that is cut, and not rounded, after 20 digits.
 #[derive(Args)]
 pub struct Exp {
     /// Whole numbers from 0 to 5534960
