@@ -1,6 +1,8 @@
 // Words of 64 bits: fields cut out by masks and shifts, the product of two words, and the order of numbers of two digits, of 64 or of 62
 // bits.
 // No function branches on its data.
+#![tactic(auto)]
+
 ghost use Rattle.std.specs.Prelude.{◌≡◌, ◌+◌, ◌-◌, ◌*◌, ◌/◌, ◌%◌, ◌^◌, ◌≤◌, ◌<◌, min, ltb};
 ghost use Rattle.arithmetic.specs.Words.{low62_of, value, value62, bit};
 

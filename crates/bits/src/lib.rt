@@ -1,4 +1,6 @@
 // Bits in bytes: each byte's highest bit first, and zeros behind the bytes. Numbers are read and put by whole bytes, and not bit by bit.
+#![tactic(auto)]
+
 ghost use Rattle.std.specs.Prelude.{◌≡◌, true, false, [], ◌∷◌, ◌++◌, ◌+◌, ◌*◌, ◌/◌, ◌%◌, ◌^◌, ◌≤◌, ◌<◌, length, get_or, set, replicate};
 ghost use Rattle.bits.specs.Bits.{digits, number, bit_at, put_bits};
 

@@ -1,4 +1,6 @@
 // Tests that calls make before they are served.
+#![tactic(auto)]
+
 ghost use Rattle.std.specs.Prelude.{◌≡◌};
 ghost use Rattle.checks.specs.Checks.{is_degree};
 

@@ -1,4 +1,6 @@
 // The read list: after the checks of a call, one entry for each read of lent words, tables and keys, written where the read is made.
+#![tactic(auto)]
+
 ghost use Rattle.std.specs.Prelude.{◌≡◌, ◌<◌, ◌^◌, length, get_or, set, pos};
 ghost use Rattle.read_list.specs.Entries.{entry, filled_part};
 
@@ -59,8 +61,8 @@ pub fn listed_value(key: &[i32], kind: u32, place: usize, list: &mut [u32], at: 
 
 // The filled part of a list: the part of the lent list itself, up to the count; over the list's length, the empty part.
 pub fn filled<'a>(list: &'a [u32], count: usize) -> &'a [u32]
-    ensures result_value { result.now ≡ filled_part list.now count }
-    ensures ref_ptr_value { result.ref_ptr ≡ list.entry.ref_ptr }
+    ensures part { result.now ≡ filled_part list.now count }
+    ensures start { result.ref_ptr ≡ list.entry.ref_ptr }
 {
     if list.len() < count {
         return &list[..0];

@@ -1,4 +1,5 @@
 // The numbers of refusals, each named for what is refused. 0 is a call that is served.
+#![tactic(auto)]
 
 // The degree is not a power of two from 4 to 1,024.
 pub const DEGREE: u32 = 1;

@@ -7,8 +7,8 @@ use native.Mathlib.Omega.{arith}
 use lib.Dec.{leb}
 use borrow.Author.Tests.{leb-true, leb-false}
 use mir.Val.{bool_byte}
-use Rattle.arithmetic.proofs.smaller.Statement.{statement}
-use Rattle.arithmetic.proofs.smaller.Tie as tie
+use Rattle.arithmetic.proofs.smaller.Goals as goal
+use Rattle.arithmetic.proofs.smaller.Goals.{Start}
 
 record Chosen (a b : ℕ) (first : Bool) : Type 0 where
   bit : bool_byte first ≤ 1
@@ -24,26 +24,20 @@ chosen a b ha hb = by (leb a b) refl
     by true e = let h = leb-true a b e in record { bit = omega arith; a_fits = omega arith; b_fits = omega arith; fits = omega arith; value = omega arith }
     by false e = let h = leb-false a b e in record { bit = omega arith; a_fits = omega arith; b_fits = omega arith; fits = omega arith; value = omega arith }
 
-both : (c : tie.Start) → Chosen c.args.a c.args.b (leb c.args.a c.args.b)
+both : (c : Start) → Chosen c.args.a c.args.b (leb c.args.a c.args.b)
 both c = chosen c.args.a c.args.b c.ranges.a.fits c.ranges.b.fits
 
-cast-first : tie.Need-overflow-cast-first
-cast-first c = search rules
+pub overflow_mul-result : goal.overflow_mul-result
+overflow_mul-result c = record { fits = (both (goal.at.overflow_mul-result c).Start).a_fits }
 
-mul-result : tie.Need-overflow-mul-result
-mul-result c = record { fits = (both c).a-fits }
+pub overflow_sub-result : goal.overflow_sub-result
+overflow_sub-result c = (both (goal.at.overflow_sub-result c).Start).bit
 
-sub-result : tie.Need-overflow-sub-result
-sub-result c = (both c).bit
+pub overflow_mul-result-2 : goal.overflow_mul-result-2
+overflow_mul-result-2 c = record { fits = (both (goal.at.overflow_mul-result-2 c).Start).b_fits }
 
-mul-result-2 : tie.Need-overflow-mul-result-2
-mul-result-2 c = record { fits = (both c).b-fits }
+pub overflow_add-result : goal.overflow_add-result
+overflow_add-result c = record { fits = (both (goal.at.overflow_add-result c).Start).fits }
 
-add-result : tie.Need-overflow-add-result
-add-result c = record { fits = (both c).ranges }
-
-returns : tie.Need-returns
-returns c = (both c).value
-
-pub smaller-spec : {M : Type 1} → statement M
-smaller-spec = tie.close (tie.spec cast-first mul-result sub-result mul-result-2 add-result returns)
+pub returns : goal.returns
+returns c = (both (goal.at.returns c).Start).value
