@@ -1,4 +1,6 @@
 // What a challenge is. It is public, and its tests may branch.
+#![tactic(auto)]
+
 ghost use Rattle.std.specs.Prelude.{◌≡◌};
 ghost use Rattle.challenge.specs.Challenge.{length_fits, positions_below, ascends, are_positions, is_challenge};
 

@@ -1,4 +1,6 @@
 // The exponential of document 01, its squarings rounded by S-7, in units of 2^-62.
+#![tactic(auto)]
+
 ghost use Rattle.std.specs.Prelude.{◌≡◌, ◌+◌, ◌-◌, ◌*◌, ◌/◌, ◌^◌, ◌≤◌, ◌<◌, length, get_or};
 ghost use Rattle.std.proofs.lemmas.List.Edits.{sets};
 ghost use Rattle.read_list.specs.Entries.{places_down};

@@ -1,0 +1,65 @@
+-- `challenge::ascending` meets its contract: each position before k - 1 is below its next one. Assumes nothing.
+use native.Mathlib.Omega.{arith}
+use mathlib.Core.Path.{◌≡◌, sym, ap, ◌∙◌}
+use mathlib.Core.Bool.{Bool, true}
+use mathlib.Core.List.{List}
+use Prim.Native.Nat.{ℕ, suc, ◌≤◌, ◌+◌, ◌-◌}
+use lib.Dec.{ltb}
+use lib.ListN.{length, get_or}
+use borrow.Author.Tests.{le-ltb, lt-ltb}
+use Rattle.checks.specs.Checks.{all_below}
+use Rattle.checks.proofs.AllBelow.{all_none, all_more, all_broken, all_done}
+use Rattle.challenge.specs.Challenge.{ascends}
+use Rattle.challenge.proofs.ascending.Invariants.{rises, compared}
+use Rattle.challenge.proofs.ascending.Goals as goal
+
+-- ** The states, each from the one after it
+
+-- ** What the code asks for
+
+pub loop-k-init : goal.loop-k-init
+loop-k-init c = (omega arith, omega arith, all_none _)
+
+pub offset_bounds-challenge-k : goal.offset_bounds-challenge-k
+offset_bounds-challenge-k c = omega arith
+
+pub bounds-challenge-k : goal.bounds-challenge-k
+bounds-challenge-k c = omega arith
+
+pub overflow_sub-k : goal.overflow_sub-k
+overflow_sub-k c = omega arith
+
+pub offset_bounds-challenge-k-in-loop-k : goal.offset_bounds-challenge-k-in-loop-k
+offset_bounds-challenge-k-in-loop-k c = omega arith
+
+pub bounds-challenge-k-in-loop-k : goal.bounds-challenge-k-in-loop-k
+bounds-challenge-k-in-loop-k c = omega arith
+
+pub returns-then-challenge-k : goal.returns-then-challenge-k
+unfolding ascends
+returns-then-challenge-k c =
+    let t = c.loop-k in
+    let challenge = c.args.challenge.now in
+    let falls = le-ltb (get_or challenge (t.k - 1) 0) (get_or challenge t.k 0) (omega arith) in
+    sym (all_broken (rises challenge) (t.k - 1) _ (omega arith) (compared challenge t.k t.invariant.0 ∙ falls))
+
+pub overflow_add-k : goal.overflow_add-k
+overflow_add-k c = omega arith
+
+pub loop-k-smaller : goal.loop-k-smaller
+loop-k-smaller c = omega arith
+
+pub loop-k-preserved : goal.loop-k-preserved
+loop-k-preserved c =
+    let t = c.loop-k in
+    let challenge = c.args.challenge.now in
+    let e : t.k + 1 - 1 ≡ t.k - 1 + 1 = omega arith in
+    let next = lt-ltb (get_or challenge (t.k - 1) 0) (get_or challenge t.k 0) (omega arith) in
+    let more = all_more (rises challenge) (t.k - 1) t.invariant.2 (compared challenge t.k t.invariant.0 ∙ next) in
+    (omega arith, omega arith, ap (all_below (rises challenge)) e ∙ more)
+
+pub returns : goal.returns
+unfolding ascends
+returns c =
+    let t = c.loop-k in
+    all_done _ _ _ t.invariant.1 (omega arith) t.invariant.2

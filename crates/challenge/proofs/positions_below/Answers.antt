@@ -1,0 +1,54 @@
+-- `challenge::positions_below` meets its contract: the positions before k are below n. Assumes nothing.
+use native.Mathlib.Omega.{arith}
+use mathlib.Core.Path.{◌≡◌, sym}
+use mathlib.Core.Bool.{Bool, true}
+use mathlib.Core.List.{List}
+use Prim.Native.Nat.{ℕ, ◌≤◌, ◌-◌}
+use lib.Dec.{ltb}
+use lib.ListN.{length, get_or}
+use borrow.Author.Tests.{le-ltb, lt-ltb}
+use Rattle.checks.specs.Checks.{all_below}
+use Rattle.checks.proofs.AllBelow.{all_none, all_more, all_broken, all_done}
+use Rattle.challenge.specs.Challenge.{positions_below}
+use Rattle.challenge.proofs.positions_below.Invariants.{is_below}
+use Rattle.challenge.proofs.positions_below.Goals as goal
+
+-- ** The states, each from the one after it
+
+-- ** What the code asks for
+
+pub loop-k-init : goal.loop-k-init
+loop-k-init c = (omega arith, all_none _)
+
+pub offset_bounds-challenge-k : goal.offset_bounds-challenge-k
+offset_bounds-challenge-k c = omega arith
+
+pub bounds-challenge-k : goal.bounds-challenge-k
+bounds-challenge-k c = omega arith
+
+pub overflow_cast-challenge : goal.overflow_cast-challenge
+overflow_cast-challenge c = omega (arith, c.shared_slice_known-1.given c.loop-k.k)
+
+pub returns-then-n-challenge : goal.returns-then-n-challenge
+unfolding positions_below
+returns-then-n-challenge c =
+    let a = c.args in
+    let k = c.loop-k.k in
+    sym (all_broken (is_below a.n a.challenge.now) k _ (omega arith) (le-ltb (get_or a.challenge.now k 0) a.n (omega arith)))
+
+pub overflow_add-k : goal.overflow_add-k
+overflow_add-k c = omega arith
+
+pub loop-k-smaller : goal.loop-k-smaller
+loop-k-smaller c = omega arith
+
+pub loop-k-preserved : goal.loop-k-preserved
+loop-k-preserved c =
+    let a = c.args in
+    let t = c.loop-k in
+    let next = lt-ltb (get_or a.challenge.now t.k 0) a.n (omega arith) in
+    (omega arith, all_more (is_below a.n a.challenge.now) t.k t.invariant.1 next)
+
+pub returns : goal.returns
+unfolding positions_below
+returns c = all_done _ _ _ c.loop-k.invariant.0 c.loop-k-test.false c.loop-k.invariant.1

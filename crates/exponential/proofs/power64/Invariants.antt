@@ -1,0 +1,12 @@
+use mathlib.Core.Path.{◌≡◌, refl, ap, ◌∙◌}
+use Prim.Native.Nat.{ℕ, ◌≤◌, ◌^◌, ◌-◌}
+use native.Mathlib.Omega.{arith}
+use Rattle.exponential.specs.Exponential.{squarings}
+use Rattle.exponential.proofs.Steps.{squarings_step, squarings_end}
+use Rattle.exponential.proofs.power64.Given as goal
+
+abbrev pub invariant-loop-left : goal.invariant-loop-left
+invariant-loop-left l = (l.a ≤ 2 ^ 62) × (squarings l.left l.a ≡ squarings 6 l.first)
+
+abbrev pub decreases-loop-left : goal.decreases-loop-left
+decreases-loop-left l = l.left
