@@ -12,14 +12,14 @@ pub const TWO_62: u64 = 0x4000_0000_0000_0000;
 pub const TWO_63: u64 = 2 * TWO_62;
 
 // The number high * 2^64 + low.
-#[derive(Drop)]
+#[derive(Clone, Copy)]
 pub struct Wide {
     pub high: u64,
     pub low: u64,
 }
 
 // The number high * 2^62 + low: a draw, or a threshold.
-#[derive(Drop)]
+#[derive(Clone, Copy)]
 pub struct Wide62 {
     pub high: u64,
     pub low: u64,

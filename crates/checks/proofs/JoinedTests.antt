@@ -10,11 +10,11 @@ use borrow.Author.Tests.{not-true, not-false, ltb-true, ltb-false, lt-leb, le-le
 -- ** One test
 
 -- a test that code makes, where it goes on and where it leaves
-pub holds : {made test : Bool} → made ≡ test → not made ≡ false → test ≡ true
-holds e h = sym e ∙ not-false _ h
+pub holds : {made test : Bool} → made ≡ test → made ≡ true → test ≡ true
+holds e h = sym e ∙ h
 
-pub fails : {made test : Bool} → made ≡ test → not made ≡ true → test ≡ false
-fails e h = sym e ∙ not-true _ h
+pub fails : {made test : Bool} → made ≡ test → made ≡ false → test ≡ false
+fails e h = sym e ∙ h
 
 -- the same where code tests that another fails
 pub holds_else : {made test : Bool} → made ≡ not test → made ≡ false → test ≡ true

@@ -1,4 +1,6 @@
 // Small signed numbers, with no branch on their values: signs as numbers, sums, squares, sizes, ranges, and vectors kept or zeroed.
+#![tactic(auto)]
+
 ghost use Rattle.std.specs.Prelude.{◌≡◌, cond, ◌+◌, ◌*◌, ◌^◌, ◌≤◌, ◌<◌, eqb, pos, nat_abs, ◌+ℤ◌, ◌*ℤ◌, length, replicate};
 ghost use Rattle.signed.specs.Signs.{sign};
 ghost use Rattle.signed.specs.Vectors.{all_within};

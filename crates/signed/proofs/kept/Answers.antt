@@ -7,8 +7,8 @@ use lib.IntN.{ℤ, pos, ◌*ℤ◌, one, *ℤ-one, *ℤ-zero}
 use mir.Syntax.{w32}
 use mir.Val.{SFits, to_z, of_z, bool_byte}
 use Rattle.signed.proofs.Signs.{read_back}
-use Rattle.signed.proofs.kept.Statement.{statement}
-use Rattle.signed.proofs.kept.Tie as tie
+use Rattle.signed.proofs.kept.Goals as goal
+use Rattle.signed.proofs.kept.Goals.{Start}
 
 times_bit : (keep : Bool) (z : ℤ) → z *ℤ to_z w32 (bool_byte keep) ≡ cond keep z (pos 0)
 unfolding one
@@ -19,18 +19,12 @@ either_fits : (keep : Bool) (z : ℤ) → SFits w32 z → SFits w32 (cond keep z
 either_fits true z f = f
 either_fits false z f = record { sfits = lit< tt }
 
-value : (c : tie.Start)
+value : (c : Start)
     → to_z w32 (of_z w32 c.args.value) *ℤ to_z w32 (bool_byte c.args.keep) ≡ cond c.args.keep c.args.value (pos 0)
 value c = ap (λ (z : ℤ). z *ℤ to_z w32 (bool_byte c.args.keep)) (read_back c.ranges.value) ∙ times_bit c.args.keep c.args.value
 
-cast-result : tie.Need-overflow-cast-result
-cast-result c = search rules
+pub overflow_mul-result : goal.overflow_mul-result
+overflow_mul-result c = subst (SFits w32) (sym (value c)) (either_fits c.args.keep c.args.value c.ranges.value)
 
-mul-result : tie.Need-overflow-mul-result
-mul-result c = subst (SFits w32) (sym (value c)) (either_fits c.args.keep c.args.value c.ranges.value)
-
-returns : tie.Need-returns
-returns c = read_back (mul-result c) ∙ value c
-
-pub kept-spec : {M : Type 1} → statement M
-kept-spec = tie.close (tie.spec cast-result mul-result returns)
+pub returns : goal.returns
+returns c = read_back (overflow_mul-result c) ∙ value c

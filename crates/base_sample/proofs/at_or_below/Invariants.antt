@@ -1,0 +1,39 @@
+use borrow.Author.Rules.{rules}
+use mathlib.Core.Path.{◌≡◌, refl, ap, ◌∙◌}
+use mathlib.Core.List.{List}
+use Prim.Native.Nat.{ℕ, ◌≤◌, ◌<◌, ◌+◌, ◌-◌, ◌*◌, ◌^◌}
+use native.Mathlib.Omega.{arith}
+use lib.Dec.{ltb}
+use lib.ListN.{length, get_or, take, length-set}
+use lib.Seq.{sets, get_or-take, length-take-le}
+use Rattle.arithmetic.specs.Words.{value62, bit}
+use Rattle.arithmetic.proofs.Bits.{bit_le}
+use Rattle.read_list.specs.Entries.{places_up}
+use Rattle.read_list.proofs.Runs.{places_up_more}
+use Rattle.base_sample.specs.BaseSample.{threshold, at_or_below, base_sample}
+use Rattle.base_sample.proofs.Thresholds.{word_small, one_of_both, at_or_below_next}
+use Rattle.base_sample.proofs.at_or_below.Given as goal
+
+pub record Counted (cdt : List ℕ) (d : ℕ) (list₀ : List ℕ) (at : ℕ) (list : List ℕ) (x i : ℕ) : Type 0 where
+  pub turns : i ≤ 10
+  pub small : x ≤ 10
+  pub count : x + i ≡ 10 + at_or_below (threshold cdt) d i
+  pub same : length list ≡ length list₀
+  pub entries : list ≡ sets list₀ at (places_up 3 10 i)
+
+-- a high word that is held is the table's
+pub held : (cdt high : List ℕ) (i : ℕ) → high ≡ take 10 cdt → i < 10 → get_or high i 0 ≡ get_or cdt i 0
+held cdt high i e h = ap (λ (l : List ℕ). get_or l i 0) e ∙ get_or-take 10 cdt i 0 h
+
+-- one threshold more
+pub counted : (cdt : List ℕ) (d x i h l r : ℕ) → x + i ≡ 10 + at_or_below (threshold cdt) d i → i < 10 → h ≡ get_or cdt i 0 → l ≡ get_or cdt (10 + i) 0
+    → r ≡ bit (ltb d (h * 2 ^ 62 + l)) → x - r + (i + 1) ≡ 10 + at_or_below (threshold cdt) d (i + 1)
+counted cdt d x i h l r ex here eh el er =
+    let below : r ≡ bit (ltb d (threshold cdt i)) = er ∙ rw (eh, el) in
+    omega (arith, ex, here, below, at_or_below_next (threshold cdt) d i, one_of_both (threshold cdt i) d)
+
+abbrev pub invariant-loop-i : goal.invariant-loop-i
+invariant-loop-i l = Counted l.cdt (value62 l.draw) l.initial.list l.at l.list l.x l.i
+
+abbrev pub decreases-loop-i : goal.decreases-loop-i
+decreases-loop-i l = 10 - l.i

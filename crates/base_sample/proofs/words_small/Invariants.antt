@@ -1,0 +1,17 @@
+use native.Mathlib.Omega.{arith}
+use mathlib.Core.Path.{◌≡◌, sym}
+use mathlib.Core.Bool.{true}
+use Prim.Native.Nat.{ℕ, ◌≤◌, ◌-◌, ◌^◌}
+use lib.Dec.{ltb}
+use lib.ListN.{get_or}
+use borrow.Author.Tests.{le-ltb, lt-ltb}
+use Rattle.checks.specs.Checks.{all_below}
+use Rattle.checks.proofs.AllBelow.{all_none, all_more, all_broken, all_done}
+use Rattle.base_sample.specs.BaseSample.{words_small}
+use Rattle.base_sample.proofs.words_small.Given as goal
+
+abbrev pub invariant-loop-i : goal.invariant-loop-i
+invariant-loop-i l = (l.i ≤ 20) × (all_below (λ (j : ℕ). ltb (get_or l.cdt j 0) (2 ^ 62)) l.i ≡ true)
+
+abbrev pub decreases-loop-i : goal.decreases-loop-i
+decreases-loop-i l = 20 - l.i

@@ -1,0 +1,54 @@
+-- `signed::keep_all` meets its contract: after i turns the first i values are kept or zero, and the others stand. Assumes nothing.
+use borrow.Author.Rules.{rules}
+use mathlib.Core.Path.{◌≡◌, refl, ap, ap₂, ◌∙◌}
+use mathlib.Core.Bool.{Bool, true, false, cond}
+use mathlib.Core.List.{List, ◌++◌}
+use Prim.Native.Nat.{ℕ, ◌+◌, ◌≤◌, ◌<◌, ◌-◌}
+use native.Mathlib.Omega.{arith}
+use lib.IntN.{ℤ, pos}
+use lib.ListN.{length, replicate, drop, set, get_or, length-set}
+use lib.Seq.{set-get_or}
+use mir.Syntax.{w32}
+use mir.Val.{to_z, of_z}
+use Rattle.signed.proofs.Signs.{read_back}
+use Rattle.lists.proofs.Filling.{fill_more, fill_all}
+use Rattle.signed.proofs.keep_all.Invariants.{keep_more, keep_start, keep_end}
+use Rattle.signed.proofs.keep_all.Goals as goal
+use Rattle.signed.proofs.keep_all.Goals.{After-kept-v}
+
+-- ** The states, each from the one after it
+
+-- ** What is known in a turn
+
+-- what it stores
+stored : (c : After-kept-v)
+    →
+    to_z w32 (of_z w32 c.kept-v.result) ≡ cond c.args.keep (get_or c.loop-i.values c.loop-i.i (pos 0)) (pos 0)
+stored c =
+    let keep = c.args.keep in
+    let value = ap (λ (x : ℤ). cond keep x (pos 0)) (read_back {w = w32} (record { sfits = c.kept-arg-1.given })) in
+    read_back {w = w32} (record { sfits = c.kept-v.type_inv }) ∙ c.kept-v.ensures ∙ value
+
+-- ** What the code asks for
+
+pub loop-i-init : goal.loop-i-init
+loop-i-init c = (omega arith, refl, keep_start c.args.keep c.args.values.now)
+
+pub kept-v-requires : goal.kept-v-requires
+kept-v-requires c = tt
+
+pub loop-i-smaller : goal.loop-i-smaller
+loop-i-smaller c = omega arith
+
+pub loop-i-preserved : goal.loop-i-preserved
+loop-i-preserved c =
+    let a = c.args in
+    let t = c.loop-i in
+    let more = keep_more a.keep a.values.now t.values t.i _ t.invariant.2 (omega arith) (stored c) in
+    (omega arith, length-set t.values _ _ ∙ t.invariant.1, more)
+
+pub returns : goal.returns
+returns c =
+    let a = c.args in
+    let t = c.loop-i in
+    keep_end a.keep a.values.now t.values t.i t.invariant.2 (omega arith)
