@@ -1,4 +1,6 @@
 // The record of a signature: definitions, claims, and what its writer and its reader share.
+#![tactic(auto)]
+
 ghost use Rattle.std.specs.Prelude.{◌≡◌};
 ghost use Rattle.record.specs.Lengths.{packed_length};
 
