@@ -1,5 +1,7 @@
 // The bit of a response of document 01 and request S-2. Nothing branches on a sum, a test or a word; the five tests are joined into one
 // bit.
+#![tactic(auto)]
+
 ghost use Rattle.std.specs.Prelude.{◌≡◌, ◌+◌, ◌*◌, ◌^◌, ◌≤◌, ◌<◌, length, nat_abs};
 ghost use Rattle.std.proofs.lemmas.List.Edits.{sets};
 ghost use Rattle.exponential.specs.Exponential.{polynomial, exp_scaled, limit};
@@ -19,7 +21,7 @@ const BIT_AT: usize = SECOND_AT + exponential::POLYNOMIAL_WORDS;
 pub const ENTRIES: usize = BIT_AT + 1;
 
 // What the bit of a response depends on: the sums A, Z and I, whether the coefficients of z1 are within their limit, and two words.
-#[derive(Drop)]
+#[derive(Clone, Copy)]
 pub struct Measures {
     pub squares: u64,
     pub norm: u64,

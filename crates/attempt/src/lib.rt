@@ -1,4 +1,6 @@
 // The attempt of document 01. Nothing branches on a word, a sample or e(N), and the exponential is always worked out.
+#![tactic(auto)]
+
 ghost use Rattle.std.specs.Prelude.{◌≡◌, not, ◌&&◌, ◌+◌, ◌*◌, ◌/◌, ◌%◌, ◌^◌, ◌≤◌, ◌<◌, ltb, eqb, length, get_or, set};
 ghost use Rattle.std.proofs.lemmas.List.Edits.{sets};
 ghost use Rattle.arithmetic.specs.Words.{low62_of};
@@ -22,7 +24,7 @@ const ACCEPTED_AT: usize = POLYNOMIAL_AT + exponential::POLYNOMIAL_WORDS;
 pub const ENTRIES: usize = ACCEPTED_AT + 1;
 
 // The words of an attempt: the draw that the first two give, and the other two.
-#[derive(Drop)]
+#[derive(Clone, Copy)]
 pub struct AttemptWords {
     pub draw: Wide62,
     pub third: u64,

@@ -1,4 +1,6 @@
 // The product of a challenge with the key, modulo X^n + 1. Branches may depend on the challenge, and none on a key value.
+#![tactic(auto)]
+
 ghost use Rattle.std.specs.Prelude.{◌≡◌, true, ◌+◌, ◌*◌, ◌≤◌, ◌<◌, length, set};
 ghost use Rattle.std.proofs.lemmas.List.Edits.{sets};
 ghost use Rattle.signed.specs.Vectors.{all_within, square_sum};

@@ -1,4 +1,6 @@
 // The deviations of noise, by request S-8. A session's is public, and so is all that hangs on it.
+#![tactic(auto)]
+
 ghost use Rattle.std.specs.Prelude.{◌≡◌, true};
 ghost use Rattle.exponential.specs.Exponential.{reciprocal, divisor_at};
 ghost use Rattle.deviations.specs.Deviations.{is_deviation};

@@ -95,7 +95,7 @@ fn is_length(n: usize, count: usize) -> bool
 
 // The answer of the key check: a refusal and 0, or 0 and the final sum.
 #[repr(C)]
-#[derive(Drop)]
+#[derive(Clone, Copy)]
 pub struct KeyCheck {
     pub refusal: u32,
     pub sum: u32,

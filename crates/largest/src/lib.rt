@@ -1,5 +1,7 @@
 // The sum of the k largest of some values, with no branch on them: the k-th largest is found bit by bit, by counting, and what the others
 // are over it is added.
+#![tactic(auto)]
+
 ghost use Rattle.std.specs.Prelude.{◌≡◌, ◌≤◌, ◌<◌, pos, nat_abs, ◌+ℤ◌};
 ghost use Rattle.largest.specs.Largest.{largest_sum};
 ghost use Rattle.largest.specs.Threshold.{value_at, threshold_bound, InRange, sum_over, reaches, excess, IsKth};

@@ -1,5 +1,7 @@
 // Reads the record of a signature. Behind the bytes stand zeros, so that each part is read with no test of the length; one at the end is
 // enough. All that it is lent is public, and it may branch on it: it stops at the first value that is none.
+#![tactic(auto)]
+
 ghost use Rattle.std.specs.Prelude.{◌≡◌, true, not, ◌||◌, ◌+◌, ◌*◌, ◌≤◌, ◌<◌, ◌^◌, length};
 ghost use Rattle.std.proofs.lemmas.List.Edits.{sets};
 ghost use Rattle.bits.specs.Bits.{bit_at};
@@ -10,7 +12,7 @@ ghost use Rattle.record.specs.Reading.{fields_of, fields_end, are_fields, is_rec
 ghost use Rattle.record_reader.specs.Call.{contents_of, no_contents, have_room, after_read, read_left};
 
 // What stands in bytes as a value of z: the value, whether it may stand in a record, and then the place behind it.
-#[derive(Drop)]
+#[derive(Clone, Copy)]
 struct Value {
     value: i32,
     right: bool,
@@ -45,7 +47,7 @@ fn value_at(bytes: &[u8], at: usize) -> Value
 }
 
 // What was found in bytes: whether it may stand in a record, and then the place behind it.
-#[derive(Drop)]
+#[derive(Clone, Copy)]
 struct Found {
     right: bool,
     end: usize,
@@ -197,7 +199,7 @@ fn is_record(bytes: &[u8]) -> bool
 
 // What a read answers: its refusal, or 0 with n, the bit map and the lengths of the fields.
 #[repr(C)]
-#[derive(Drop)]
+#[derive(Clone, Copy)]
 pub struct Contents {
     pub refusal: u32,
     pub map: u32,

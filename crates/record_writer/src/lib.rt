@@ -1,4 +1,6 @@
 // Writes the record of a signature. All that it is lent is public, and it may branch on it.
+#![tactic(auto)]
+
 ghost use Rattle.std.specs.Prelude.{◌≡◌, true, ◌+◌, ◌*◌, ◌/◌, ◌≤◌, ◌<◌, ◌^◌, nat_abs, length, replicate};
 ghost use Rattle.bits.specs.Bits.{digits, put_bits};
 ghost use Rattle.bits.specs.Items.{joined, given, passes, form_if, items_of};
@@ -8,7 +10,7 @@ ghost use Rattle.record_writer.specs.Call.{told, answer, after_write, write_left
 
 // Which fields a record is to have.
 #[repr(C)]
-#[derive(Drop)]
+#[derive(Clone, Copy)]
 pub struct Fields {
     pub challenge: bool,
     pub z1: bool,
@@ -17,7 +19,7 @@ pub struct Fields {
 
 // What a write answers: its refusal, or 0 with the length of the record.
 #[repr(C)]
-#[derive(Drop)]
+#[derive(Clone, Copy)]
 pub struct Written {
     pub refusal: u32,
     pub length: usize,

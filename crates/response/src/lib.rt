@@ -26,14 +26,14 @@ const KEY_AT: usize = 1;
 pub const OTHER_ENTRIES: usize = KEY_AT + WORDS + acceptance::ENTRIES;
 
 // The answer of a response: its bit, and the entries listed.
-#[derive(Drop)]
+#[derive(Clone, Copy)]
 pub struct Answer {
     pub bit: bool,
     pub entries: usize,
 }
 
 // The words of a response.
-#[derive(Drop)]
+#[derive(Clone, Copy)]
 pub struct ResponseWords {
     pub first: u64,
     pub second: u64,
@@ -41,7 +41,7 @@ pub struct ResponseWords {
 }
 
 // The sum of squares Z of a response, and its sum of products I with the challenge product.
-#[derive(Drop)]
+#[derive(Clone, Copy)]
 pub struct Sums {
     pub norm: u64,
     pub inner: i64,

@@ -8,7 +8,7 @@ ghost use Rattle.sampler.specs.Draw.{draw_bits, draw_list_length, sampled_by};
 pub const OTHER_ENTRIES: usize = 2;
 
 // The counts of a draw: attempts made, samples accepted, entries listed.
-#[derive(Drop)]
+#[derive(Clone, Copy)]
 pub struct Counts {
     pub attempts: usize,
     pub accepted: usize,

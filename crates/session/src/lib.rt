@@ -9,7 +9,7 @@ use sampler::Counts;
 
 // y is drawn where drawn is 1, and at any other number it is not.
 #[repr(C)]
-#[derive(Drop)]
+#[derive(Clone, Copy)]
 pub struct Session {
     pub degree: usize,
     pub deviation: u64,
@@ -18,7 +18,7 @@ pub struct Session {
 
 // What opening hands back.
 #[repr(C)]
-#[derive(Drop)]
+#[derive(Clone, Copy)]
 pub struct Opened {
     pub refusal: u32,
     pub session: Session,
@@ -26,7 +26,7 @@ pub struct Opened {
 
 // The answer of a draw: a refusal, or 0; attempts made, samples accepted, entries listed.
 #[repr(C)]
-#[derive(Drop)]
+#[derive(Clone, Copy)]
 pub struct DrawAnswer {
     pub refusal: u32,
     pub attempts: usize,
@@ -36,7 +36,7 @@ pub struct DrawAnswer {
 
 // What a draw hands back.
 #[repr(C)]
-#[derive(Drop)]
+#[derive(Clone, Copy)]
 pub struct Drawn {
     pub answer: DrawAnswer,
     pub session: Session,
@@ -44,7 +44,7 @@ pub struct Drawn {
 
 // The answer of a respond: a refusal, or 0; the bit, and entries listed.
 #[repr(C)]
-#[derive(Drop)]
+#[derive(Clone, Copy)]
 pub struct RespondAnswer {
     pub refusal: u32,
     pub bit: bool,
@@ -53,7 +53,7 @@ pub struct RespondAnswer {
 
 // What a respond hands back.
 #[repr(C)]
-#[derive(Drop)]
+#[derive(Clone, Copy)]
 pub struct Responded {
     pub answer: RespondAnswer,
     pub session: Session,
