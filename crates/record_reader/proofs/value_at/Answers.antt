@@ -1,0 +1,70 @@
+-- `record_reader::value_at` meets its contract: the parts of the longest form. Assumes nothing.
+use borrow.Author.Rules.{rules}
+use native.Mathlib.Omega.{arith}
+use mathlib.Core.Path.{◌≡◌, ap, ◌∙◌}
+use mathlib.Core.Bool.{Bool}
+use Prim.Native.Nat.{ℕ, ◌+◌, ◌-◌, ◌*◌, ◌/◌, ◌%◌, ◌^◌, ◌≤◌, ◌<◌}
+use lib.Count.{count_leading_zeros}
+use Rattle.bits.specs.Bits.{number, bit_at}
+use Rattle.bits.proofs.Numbers.{number_below}
+use Rattle.bits.proofs.Streams.{zeros_most}
+use Rattle.signed.proofs.Signs.{read_back}
+use Rattle.record.specs.Lengths.{packed_length}
+use Rattle.record.specs.Reading.{zeros_at, size_at, value_at, is_value}
+use Rattle.record.proofs.Forms.{packed_next}
+use Rattle.record_reader.proofs.LongestForm.{Parts, parts}
+use mir.Syntax.{w32}
+use Rattle.record_reader.proofs.value_at.Goals as goal
+use Rattle.record_reader.proofs.value_at.Goals.{After-number_at-form}
+
+-- ** What is known of the number that is read
+
+module _ (c : After-number_at-form) where
+  abbrev stream : ℕ → Bool
+  stream = bit_at c.args.bytes.now
+
+  abbrev at : ℕ
+  at = c.args.at
+
+  found : Parts stream at c.number_at-form.result
+  found = parts stream at c.number_at-form.result c.number_at-form.ensures
+
+  zeros_is : count_leading_zeros 64 (c.number_at-form.result % 2 ^ 26) - 38 ≡ zeros_at stream at
+  zeros_is = omega (arith, found.over)
+
+  few : zeros_at stream at ≤ 26
+  few = zeros_most stream (at + 8) 26
+
+  low_small : number stream (at + 1) 7 < 2 ^ 7
+  low_small = number_below stream (at + 1) 7
+
+  size_is : c.number_at-form.result / 2 ^ 26 % 128 + 128 * (count_leading_zeros 64 (c.number_at-form.result % 2 ^ 26) - 38) ≡ size_at stream at
+  size_is = rw (found.low, zeros_is)
+
+-- ** The needs
+
+pub overflow_sub-zeros : goal.overflow_sub-zeros
+overflow_sub-zeros c = omega (arith, (found (goal.at.overflow_sub-zeros c).After-number_at-form).over)
+
+pub overflow_mul-size : goal.overflow_mul-size
+overflow_mul-size c =
+    let here = (goal.at.overflow_mul-size c).After-number_at-form in
+    omega (arith, zeros_is here, few here)
+
+pub overflow_add-size : goal.overflow_add-size
+overflow_add-size c =
+    let here = (goal.at.overflow_add-size c).After-number_at-form in
+    omega (arith, zeros_is here, few here)
+
+pub with_sign-requires : goal.with_sign-requires
+with_sign-requires c =
+    let here = (goal.at.with_sign-requires c).After-number_at-form in
+    omega (arith, zeros_is here, few here)
+
+pub returns : goal.returns
+unfolding value_at is_value
+returns c =
+    let here = (goal.at.returns c).After-number_at-form in
+    let m = (found here).sign in
+    let l = (found here).low in
+    let z = zeros_is here in record { value_value = (read_back {w = w32} (record { sfits = c.with_sign.type_inv }) ∙ c.with_sign.ensures ∙ rw (m, l, z), rw (m, l, z)); next_value = λ h. ap (at here +◌) (c.packed_length.ensures ∙ ap packed_length (size_is here)) ∙ packed_next (stream here) (at here) (rw (m, l, z) at h) }

@@ -1,0 +1,20 @@
+use borrow.Author.Rules.{rules}
+use native.Mathlib.Omega.{arith}
+use mathlib.Core.Path.{◌∙◌}
+use mathlib.Core.Bool.{false≢true}
+use Prim.Native.Nat.{◌+◌, ◌-◌, ◌*◌, ◌≤◌, ◌<◌}
+use Rattle.bits.specs.Bits.{bit_at}
+use Rattle.bits.proofs.Walking.{Walked, Passed, walk_start, walk_step, walk_end, pass_start, pass_step, pass_fails, pass_end}
+use Rattle.checks.proofs.JoinedTests.{holds, fails}
+use Rattle.record.specs.Reading.{next_value, is_value}
+use Rattle.record.proofs.Forms.{next_most}
+use Rattle.record_reader.proofs.values_at.Given as goal
+
+abbrev pub invariant-loop-i : goal.invariant-loop-i
+invariant-loop-i l =
+    (l.place ≤ l.at + 35 * l.i)
+    × Walked (next_value (bit_at l.bytes)) l.at l.count l.place l.i
+    × Passed (next_value (bit_at l.bytes)) l.at l.count (is_value (bit_at l.bytes)) l.place l.i
+
+abbrev pub decreases-loop-i : goal.decreases-loop-i
+decreases-loop-i l = l.count - l.i
