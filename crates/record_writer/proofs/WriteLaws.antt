@@ -64,7 +64,7 @@ module _ (values : List ℤ) (right : are_small values ≡ true) (i : ℕ) where
 
   -- a value that is read from its buffer
   pub value_read : to_z w32 (of_z w32 (get_or values i (pos 0))) ≡ get_or values i (pos 0)
-  value_read = read_back (fits_of_abs (omega (arith, value_small)))
+  value_read = read_back {w = w32} (fits_of_abs (omega (arith, value_small)))
 
 -- ** The bit map and n
 

@@ -1,0 +1,12 @@
+-- `record_writer::length_right` meets its contract. Assumes nothing.
+use borrow.Author.Tests.{not-true, not-false}
+use Rattle.bits.specs.Items.{given, passes}
+use Rattle.record_writer.proofs.length_right.Goals as goal
+
+pub returns-then-not-has : goal.returns-then-not-has
+unfolding passes given
+returns-then-not-has c = rw c.if-not-has.true
+
+pub returns : goal.returns
+unfolding passes given
+returns c = rw c.if-not-has.false

@@ -1,0 +1,15 @@
+use borrow.Author.Rules.{rules}
+use native.Mathlib.Omega.{arith}
+use mathlib.Core.Path.{◌≡◌}
+use Prim.Native.Nat.{◌+◌, ◌-◌, ◌*◌, ◌<◌}
+use lib.ListN.{length, get_or}
+use Rattle.bits.specs.Bits.{digits}
+use Rattle.bits.proofs.Streams.{length_digits}
+use Rattle.bits.proofs.Putting.{Putting, putting_start, putting_step, putting_end}
+use Rattle.record_writer.proofs.put_positions.Given as goal
+
+abbrev pub invariant-loop-i : goal.invariant-loop-i
+invariant-loop-i l = Putting (digits 16) l.challenge l.initial.page (8 * l.k) l.page (8 * (l.k + 2 * l.i)) l.i
+
+abbrev pub decreases-loop-i : goal.decreases-loop-i
+decreases-loop-i l = length l.challenge - l.i

@@ -1,0 +1,83 @@
+-- `record_writer::put_value` meets its contract: the sign and the low bits, then the zeros and the one. Assumes nothing.
+use borrow.Author.Rules.{rules}
+use native.Mathlib.Omega.{arith}
+use mathlib.Core.Path.{◌≡◌, ap, ◌∙◌}
+use mathlib.Core.Bool.{Bool, true, false}
+use mathlib.Core.List.{[], ◌∷◌, ◌++◌}
+use Prim.Native.Nat.{ℕ, ◌+◌, ◌*◌, ◌/◌, ◌%◌}
+use lib.IntN.{ℤ, pos, nat_abs}
+use lib.ListN.{length, replicate}
+use lib.Signed.{lt_z}
+use mir.Syntax.{w32}
+use mir.Val.{to_z, of_z, bool_byte}
+use Rattle.bits.specs.Bits.{digits, put_bits}
+use Rattle.bits.proofs.Numbers.{bit_below}
+use Rattle.bits.proofs.Putting.{length_put}
+use Rattle.signed.proofs.Signs.{read_back}
+use Rattle.record.specs.Record.{negative}
+use Rattle.record.specs.Lengths.{packed_length}
+use Rattle.record.proofs.FieldSets.{length_value}
+use Rattle.record.proofs.Lengths.{packed_value}
+use Rattle.record_writer.proofs.WriteLaws.{below_zero, value_put}
+use Rattle.record_writer.proofs.put_value.Goals as goal
+use Rattle.record_writer.proofs.put_value.Lts as lts
+use Rattle.record_writer.proofs.put_value.Reads as reads
+use Rattle.record_writer.proofs.put_value.Tie as tie
+
+-- ** The places of the code at which the lemmas below stand
+
+abbrev After-size_of-size : Type 0
+After-size_of-size = lts.After-size_of tie.the-claims reads.Pre reads.Post
+
+abbrev After-put_eight : Type 0
+After-put_eight = lts.After-put_eight tie.the-claims reads.Pre reads.Post
+
+-- ** The states: behind the last call, behind the first eight bits, behind the size; and the start
+
+-- ** What is known there
+
+size : (c : After-size_of-size) → c.size_of-size.result ≡ nat_abs c.args.value
+size c = c.size_of-size.ensures ∙ ap nat_abs (read_back c.ranges.value)
+
+-- the sign, as it is tested
+minus : (c : After-size_of-size) → lt_z c.args.value (pos 0) ≡ negative c.args.value
+minus c = below_zero c.args.value
+
+first : (c : After-put_eight) → let a = c.args in
+    c.put_eight.new.page ≡ put_bits a.page.now a.at (digits 8 (128 * bool_byte (negative a.value) + nat_abs a.value % 128))
+first c =
+    c.put_eight.ensures
+    ∙ ap (λ (b : Bool). put_bits c.args.page.now c.args.at (digits 8 (128 * bool_byte b + c.size_of-size.result % 128))) (ap (λ (z : ℤ). lt_z z (pos 0)) (read_back c.ranges.value) ∙ minus c.before.before)
+    ∙ ap (λ (x : ℕ). put_bits c.args.page.now c.args.at (digits 8 (128 * bool_byte (negative c.args.value) + x % 128))) (size c.before.before)
+
+-- the page keeps its length
+long : (c : After-put_eight) → length c.put_eight.new.page ≡ length c.args.page.now
+long c = ap length c.put_eight.ensures ∙ length_put _ _ _
+
+-- ** The needs
+
+pub overflow_mul-minus : goal.overflow_mul-minus
+overflow_mul-minus c = omega (arith, bit_below (lt_z (to_z w32 (of_z w32 c.args.value)) (pos 0)))
+
+pub overflow_add-minus : goal.overflow_add-minus
+overflow_add-minus c = omega (arith, bit_below (lt_z (to_z w32 (of_z w32 c.args.value)) (pos 0)))
+
+pub put_eight-requires : goal.put_eight-requires
+put_eight-requires c =
+    let sign = bit_below (lt_z (to_z w32 (of_z w32 c.args.value)) (pos 0)) in
+    (omega (arith, sign), omega (arith, c.requires.2, length_value c.args.value))
+
+pub put_one-requires : goal.put_one-requires
+put_one-requires c = (
+      omega (arith, c.requires),
+      omega (arith, size c.before.before.before.before.before, c.requires.0),
+      omega (arith, size c.before.before.before.before.before, c.requires.2, length_value c.args.value, long c.before.before.before),
+    )
+
+pub returns : goal.returns
+returns c =
+    let a = c.args in (
+      ap (a.at +◌) (c.packed_length.ensures ∙ ap packed_length (size c.before.before.before.before.before.before.before.before.before.before) ∙ packed_value a.value c.requires.0),
+      value_put a.page.now a.at a.value (first c.before.before.before.before.before.before.before.before)
+          (c.put_one.ensures ∙ ap (λ (x : ℕ). put_bits c.put_eight.new.page (a.at + 8) (replicate (x / 128) false ++ (true ∷ []))) (size c.before.before.before.before.before.before.before.before.before.before)),
+    )
