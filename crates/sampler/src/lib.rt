@@ -1,4 +1,6 @@
 // The draw of document 01. Accept bits alone steer its loop, and they are public.
+#![tactic(auto)]
+
 ghost use Rattle.std.specs.Prelude.{◌≡◌, ◌+◌, ◌*◌, ◌^◌, ◌≤◌, length};
 ghost use Rattle.exponential.specs.Exponential.{exp_scaled};
 ghost use Rattle.attempt.specs.Attempt.{Tables};
