@@ -1,4 +1,6 @@
 // The refusals of calls: of each call, the first that applies.
+#![tactic(auto)]
+
 ghost use Rattle.std.specs.Prelude.{◌≡◌};
 ghost use Rattle.refusals.specs.Refusals.{open_refusal, draw_refusal, noise_refusal, respond_refusal};
 
