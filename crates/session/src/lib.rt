@@ -1,5 +1,7 @@
 // Sessions: a degree, a deviation, and whether y is drawn. Each call takes the session by value, and hands back the next one with its
 // answer.
+#![tactic(auto)]
+
 ghost use Rattle.std.specs.Prelude.{◌≡◌, ◌≤◌};
 ghost use Rattle.session.specs.Calls.{fresh, opened, draw_of, after_draw, drawn_refused, drawn_served, draw_left};
 ghost use Rattle.session.specs.Calls.{respond_of, after_respond, responded_refused, responded_served, respond_left};
