@@ -1,5 +1,7 @@
 // Whether a key can always sign at a challenge length. No branch and no index depends on a key value, an inner product or a sum, until
 // the final sum is compared with its limit.
+#![tactic(auto)]
+
 ghost use Rattle.std.specs.Prelude.{◌≡◌, true, ◌+◌, ◌-◌, ◌*◌, ◌<◌, ◌≤◌, length, get_or, replicate, pos, nat_abs};
 ghost use Rattle.signed.specs.Vectors.{all_within};
 ghost use Rattle.challenge_product.specs.Product.{key_bound};
