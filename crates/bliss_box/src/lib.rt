@@ -1,4 +1,6 @@
 // What a C host links. A slice is a pointer and then a length.
+#![tactic(auto)]
+
 ghost use Rattle.std.specs.Prelude.{◌≡◌, length};
 ghost use Rattle.read_list.specs.Entries.{filled_part};
 ghost use Rattle.exponential.specs.Exponential.{exp_or_refusal};
