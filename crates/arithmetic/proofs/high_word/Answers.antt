@@ -1,5 +1,4 @@
 -- `arithmetic::high_word` meets its contract: the law of the columns. Each sum fits by the bounds that `mul32` ensures. Assumes nothing.
-use borrow.Author.Rules.{rules}
 use native.Mathlib.Omega.{arith}
 use mathlib.Core.Path.{refl}
 use Rattle.arithmetic.proofs.Columns.{high_word}

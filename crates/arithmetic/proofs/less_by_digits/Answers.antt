@@ -1,5 +1,4 @@
 -- `arithmetic::less_by_digits` meets its contract: the borrow is at most 1, and fits. Assumes nothing.
-use borrow.Author.Rules.{rules}
 use mathlib.Core.Path.{refl}
 use native.Mathlib.Omega.{arith}
 use lib.Dec.{ltb}

@@ -1,5 +1,4 @@
 -- `arithmetic::low_word` meets its contract: the law of the columns. Assumes nothing.
-use borrow.Author.Rules.{rules}
 use mathlib.Core.Path.{refl}
 use Rattle.arithmetic.proofs.Columns.{low_word}
 use Rattle.arithmetic.proofs.low_word.Goals as goal

@@ -1,5 +1,4 @@
 -- `arithmetic::product` meets its contract: a number is its quotient and its rest. Assumes nothing.
-use borrow.Author.Rules.{rules}
 use Prim.Native.Nat.{◌^◌}
 use native.Mathlib.Nat.{div-add-mod'}
 use Rattle.arithmetic.proofs.product.Goals as goal

@@ -1,5 +1,4 @@
 -- `arithmetic::square_shift62` meets its contract: the high word of the doubled factors. Assumes nothing.
-use borrow.Author.Rules.{rules}
 use mathlib.Core.Path.{◌∙◌}
 use Prim.Native.Nat.{◌^◌}
 use lib.Dec.{lit<}

@@ -14,10 +14,10 @@ use Rattle.attempt.proofs.attempt.Goals as goal
 
 pub exp_listed-e-requires : goal.exp_listed-e-requires
 exp_listed-e-requires c = (
-      c.requires.tables.is_polynomial_lem,
-      lt_of_le_of_lt (mul-le-mul_right c.args.reciprocal c.exponent_of-n.ensures.1) c.requires.tables.scales,
-      search rules,
-    )
+  c.requires.tables.is_polynomial_lem,
+  lt_of_le_of_lt (mul-le-mul_right c.args.reciprocal c.exponent_of-n.ensures.1) c.requires.tables.scales,
+  search rules,
+)
 
 pub judged-requires : goal.judged-requires
 judged-requires c =

@@ -6,7 +6,6 @@ use lib.ListN.{set}
 use lib.Seq.{sets}
 use Rattle.read_list.specs.Entries.{entry, places_up}
 use Rattle.read_list.proofs.Runs.{places_up_more}
-use borrow.Author.Rules.{rules}
 use Rattle.attempt.proofs.attempt_words.Goals as goal
 
 -- four entries, one after the other
@@ -18,9 +17,9 @@ four l l₁ l₂ l₃ l₄ at place e₁ e₂ e₃ e₄ = places_up_more 2 place
 
 pub returns : goal.returns
 returns c = (
-      c.low62.ensures ∙ ap (λ (w : ℕ). w % 2 ^ 62) c.listed_word-first.ensures.0,
-      c.low62-2.ensures ∙ ap (λ (w : ℕ). w % 2 ^ 62) c.listed_word-second.ensures.0,
-      c.listed_word-third.ensures.0,
-      c.listed_word-fourth.ensures.0,
-      four _ _ _ _ _ _ _ c.listed_word-first.ensures.1 c.listed_word-second.ensures.1 c.listed_word-third.ensures.1 c.listed_word-fourth.ensures.1,
-    )
+  c.low62.ensures ∙ ap (λ (w : ℕ). w % 2 ^ 62) c.listed_word-first.ensures.0,
+  c.low62-2.ensures ∙ ap (λ (w : ℕ). w % 2 ^ 62) c.listed_word-second.ensures.0,
+  c.listed_word-third.ensures.0,
+  c.listed_word-fourth.ensures.0,
+  four _ _ _ _ _ _ _ c.listed_word-first.ensures.1 c.listed_word-second.ensures.1 c.listed_word-third.ensures.1 c.listed_word-fourth.ensures.1,
+)

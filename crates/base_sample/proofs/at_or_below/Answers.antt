@@ -1,20 +1,18 @@
 -- `base_sample::at_or_below` meets its contract. The loop's invariant: of the thresholds before i, x lacks those that are above the draw, and
 -- their low words' entries are listed. Assumes nothing.
-use borrow.Author.Rules.{rules}
-use mathlib.Core.Path.{◌≡◌, refl, ap, ◌∙◌}
-use mathlib.Core.List.{List}
-use Prim.Native.Nat.{ℕ, ◌≤◌, ◌<◌, ◌+◌, ◌-◌, ◌*◌, ◌^◌}
+use mathlib.Core.Path.{◌≡◌, refl, ap}
+use Prim.Native.Nat.{◌+◌, ◌*◌, ◌^◌}
 use native.Mathlib.Omega.{arith}
 use lib.Dec.{ltb}
-use lib.ListN.{length, get_or, take, length-set}
-use lib.Seq.{sets, get_or-take, length-take-le}
-use Rattle.arithmetic.specs.Words.{value62, bit}
+use lib.ListN.{length, get_or, length-set}
+use lib.Seq.{length-take-le}
+use Rattle.arithmetic.specs.Words.{value62}
 use Rattle.arithmetic.proofs.Bits.{bit_le}
 use Rattle.read_list.specs.Entries.{places_up}
 use Rattle.read_list.proofs.Runs.{places_up_more}
 use Rattle.base_sample.specs.BaseSample.{threshold, at_or_below, base_sample}
-use Rattle.base_sample.proofs.Thresholds.{word_small, one_of_both, at_or_below_next}
-use Rattle.base_sample.proofs.at_or_below.Invariants.{Counted, held, counted}
+use Rattle.base_sample.proofs.Thresholds.{word_small}
+use Rattle.base_sample.proofs.at_or_below.Invariants.{held, counted}
 use Rattle.base_sample.proofs.at_or_below.Goals as goal
 
 -- ** The states, each from the one after it

@@ -1,17 +1,14 @@
-use borrow.Author.Rules.{rules}
-use mathlib.Core.Path.{◌≡◌, refl, ap, ◌∙◌}
+use mathlib.Core.Path.{◌≡◌, ap, ◌∙◌}
 use mathlib.Core.List.{List}
 use Prim.Native.Nat.{ℕ, ◌≤◌, ◌<◌, ◌+◌, ◌-◌, ◌*◌, ◌^◌}
 use native.Mathlib.Omega.{arith}
 use lib.Dec.{ltb}
-use lib.ListN.{length, get_or, take, length-set}
-use lib.Seq.{sets, get_or-take, length-take-le}
+use lib.ListN.{length, get_or, take}
+use lib.Seq.{sets, get_or-take}
 use Rattle.arithmetic.specs.Words.{value62, bit}
-use Rattle.arithmetic.proofs.Bits.{bit_le}
 use Rattle.read_list.specs.Entries.{places_up}
-use Rattle.read_list.proofs.Runs.{places_up_more}
-use Rattle.base_sample.specs.BaseSample.{threshold, at_or_below, base_sample}
-use Rattle.base_sample.proofs.Thresholds.{word_small, one_of_both, at_or_below_next}
+use Rattle.base_sample.specs.BaseSample.{threshold, at_or_below}
+use Rattle.base_sample.proofs.Thresholds.{one_of_both, at_or_below_next}
 use Rattle.base_sample.proofs.at_or_below.Given as goal
 
 pub record Counted (cdt : List ℕ) (d : ℕ) (list₀ : List ℕ) (at : ℕ) (list : List ℕ) (x i : ℕ) : Type 0 where

@@ -1,17 +1,13 @@
 -- `base_sample::high_words` meets its contract. The loop's invariant: the words before the place are held, and their entries are listed. Assumes
 -- nothing.
-use borrow.Author.Rules.{rules}
-use mathlib.Core.Path.{◌≡◌, refl, sym, ap₂, ◌∙◌}
-use mathlib.Core.List.{List, [], ◌∷◌, ◌++◌}
-use Prim.Native.Nat.{ℕ, ◌≤◌, ◌<◌, ◌+◌, ◌-◌}
+use mathlib.Core.Path.{◌≡◌, refl, sym, ◌∙◌}
 use native.Mathlib.Nat.{zero-add}
-use native.Mathlib.Numerals.{add-one}
 use native.Mathlib.Omega.{arith}
-use lib.ListN.{length, set, get_or, take, length-set}
-use lib.Seq.{sets, take-suc, take-suc-set, take_all}
+use lib.ListN.{length-set}
+use lib.Seq.{take_all}
 use Rattle.read_list.specs.Entries.{places_up}
 use Rattle.read_list.proofs.Runs.{places_up_more}
-use Rattle.base_sample.proofs.high_words.Invariants.{Held, held_word}
+use Rattle.base_sample.proofs.high_words.Invariants.{held_word}
 use Rattle.base_sample.proofs.high_words.Goals as goal
 
 -- ** The states, each from the one after it

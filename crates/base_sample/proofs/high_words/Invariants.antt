@@ -1,14 +1,10 @@
-use borrow.Author.Rules.{rules}
-use mathlib.Core.Path.{◌≡◌, refl, sym, ap₂, ◌∙◌}
+use mathlib.Core.Path.{◌≡◌, sym, ap₂, ◌∙◌}
 use mathlib.Core.List.{List, [], ◌∷◌, ◌++◌}
 use Prim.Native.Nat.{ℕ, ◌≤◌, ◌<◌, ◌+◌, ◌-◌}
-use native.Mathlib.Nat.{zero-add}
 use native.Mathlib.Numerals.{add-one}
-use native.Mathlib.Omega.{arith}
-use lib.ListN.{length, set, get_or, take, length-set}
-use lib.Seq.{sets, take-suc, take-suc-set, take_all}
+use lib.ListN.{length, set, get_or, take}
+use lib.Seq.{sets, take-suc, take-suc-set}
 use Rattle.read_list.specs.Entries.{places_up}
-use Rattle.read_list.proofs.Runs.{places_up_more}
 use Rattle.base_sample.proofs.high_words.Given as goal
 
 pub record Held (cdt list₀ : List ℕ) (at : ℕ) (list high : List ℕ) (place : ℕ) : Type 0 where

@@ -1,5 +1,4 @@
 -- `base_sample::is_cdt` meets its contract. Assumes nothing.
-use borrow.Author.Rules.{rules}
 use Rattle.checks.proofs.JoinedTests.{holds, fails}
 use Rattle.base_sample.specs.BaseSample.{is_cdt}
 use Rattle.base_sample.proofs.is_cdt.Goals as goal

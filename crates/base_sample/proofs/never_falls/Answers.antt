@@ -1,15 +1,12 @@
 -- `base_sample::never_falls` meets its contract: the thresholds before i are at or below their next ones. Assumes nothing.
-use borrow.Author.Rules.{rules}
 use native.Mathlib.Omega.{arith}
 use mathlib.Core.Path.{◌≡◌, sym, ◌∙◌}
-use mathlib.Core.Bool.{Bool, true}
 use mathlib.Core.List.{List}
-use Prim.Native.Nat.{ℕ, suc, ◌≤◌, ◌+◌, ◌-◌, ◌*◌, ◌^◌}
+use Prim.Native.Nat.{ℕ, suc, ◌+◌, ◌*◌, ◌^◌}
 use native.Mathlib.Numerals.{add-one}
-use lib.Dec.{leb, ltb}
+use lib.Dec.{ltb}
 use lib.ListN.{get_or}
 use Rattle.arithmetic.specs.Words.{bit}
-use Rattle.checks.specs.Checks.{all_below}
 use Rattle.checks.proofs.AllBelow.{all_none, all_more, all_broken, all_done}
 use Rattle.base_sample.specs.BaseSample.{threshold, never_falls}
 use Rattle.base_sample.proofs.Thresholds.{word_small, is_below, not_below}

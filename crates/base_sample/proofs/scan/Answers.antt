@@ -1,5 +1,4 @@
 -- `base_sample::scan` meets its contract: the entries of the low words stand behind those of the high words. Assumes nothing.
-use borrow.Author.Rules.{rules}
 use mathlib.Core.Path.{◌≡◌, refl, sym, ap, ◌∙◌}
 use mathlib.Core.List.{List}
 use Prim.Native.Nat.{ℕ, ◌+◌}

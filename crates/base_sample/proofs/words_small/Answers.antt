@@ -1,12 +1,7 @@
 -- `base_sample::words_small` meets its contract: the words before i are small. Assumes nothing.
 use native.Mathlib.Omega.{arith}
-use mathlib.Core.Path.{◌≡◌, sym}
-use mathlib.Core.Bool.{true}
-use Prim.Native.Nat.{ℕ, ◌≤◌, ◌-◌, ◌^◌}
-use lib.Dec.{ltb}
-use lib.ListN.{get_or}
+use mathlib.Core.Path.{sym}
 use borrow.Author.Tests.{le-ltb, lt-ltb}
-use Rattle.checks.specs.Checks.{all_below}
 use Rattle.checks.proofs.AllBelow.{all_none, all_more, all_broken, all_done}
 use Rattle.base_sample.specs.BaseSample.{words_small}
 use Rattle.base_sample.proofs.words_small.Goals as goal

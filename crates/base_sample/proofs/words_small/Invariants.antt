@@ -1,13 +1,9 @@
-use native.Mathlib.Omega.{arith}
-use mathlib.Core.Path.{◌≡◌, sym}
+use mathlib.Core.Path.{◌≡◌}
 use mathlib.Core.Bool.{true}
 use Prim.Native.Nat.{ℕ, ◌≤◌, ◌-◌, ◌^◌}
 use lib.Dec.{ltb}
 use lib.ListN.{get_or}
-use borrow.Author.Tests.{le-ltb, lt-ltb}
 use Rattle.checks.specs.Checks.{all_below}
-use Rattle.checks.proofs.AllBelow.{all_none, all_more, all_broken, all_done}
-use Rattle.base_sample.specs.BaseSample.{words_small}
 use Rattle.base_sample.proofs.words_small.Given as goal
 
 abbrev pub invariant-loop-i : goal.invariant-loop-i

@@ -1,5 +1,4 @@
 -- `bits::add_to_byte` meets its contract. Assumes nothing.
-use borrow.Author.Rules.{rules}
 use native.Mathlib.Omega.{arith}
 use Rattle.bits.proofs.add_to_byte.Goals as goal
 

@@ -1,5 +1,4 @@
 -- `bits::bit_at` meets its contract. Assumes nothing.
-use borrow.Author.Rules.{rules}
 use native.Mathlib.Omega.{arith}
 use mathlib.Core.Path.{refl, sym}
 use Rattle.bits.specs.Bits.{bit_at}

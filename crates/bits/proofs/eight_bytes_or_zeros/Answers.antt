@@ -1,8 +1,7 @@
 -- `bits::eight_bytes_or_zeros` meets its contract: after i turns i bytes are gathered. Assumes nothing.
-use borrow.Author.Rules.{rules}
-use Prim.Native.Nat.{◌+◌, ◌-◌, ◌^◌, ◌<◌}
+use Prim.Native.Nat.{◌+◌, ◌^◌, ◌<◌}
 use native.Mathlib.Omega.{arith}
-use Rattle.bits.proofs.Gathering.{Gathered, gather_start, gather_room, gather_step, gather_end}
+use Rattle.bits.proofs.Gathering.{gather_start, gather_room, gather_step, gather_end}
 use Rattle.bits.proofs.eight_bytes_or_zeros.Goals as goal
 use Rattle.bits.proofs.eight_bytes_or_zeros.Goals.{After-byte_at, In-loop-i}
 

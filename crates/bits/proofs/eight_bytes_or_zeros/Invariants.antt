@@ -1,7 +1,5 @@
-use borrow.Author.Rules.{rules}
-use Prim.Native.Nat.{◌+◌, ◌-◌, ◌^◌, ◌<◌}
-use native.Mathlib.Omega.{arith}
-use Rattle.bits.proofs.Gathering.{Gathered, gather_start, gather_room, gather_step, gather_end}
+use Prim.Native.Nat.{◌-◌}
+use Rattle.bits.proofs.Gathering.{Gathered}
 use Rattle.bits.proofs.eight_bytes_or_zeros.Given as goal
 
 abbrev pub invariant-loop-i : goal.invariant-loop-i

@@ -1,5 +1,4 @@
 -- `bits::four_bytes` meets its contract, byte by byte. Assumes nothing.
-use borrow.Author.Rules.{rules}
 use Prim.Native.Nat.{◌+◌}
 use native.Mathlib.Omega.{arith}
 use Rattle.bits.proofs.Packing.{four_numbers}

@@ -1,5 +1,4 @@
 -- `challenge::are_positions` meets its contract: the positions are looked at where there are not too many. Assumes nothing.
-use borrow.Author.Rules.{rules}
 use Rattle.checks.proofs.JoinedTests.{holds, fails}
 use Rattle.challenge.specs.Challenge.{are_positions}
 use Rattle.challenge.proofs.are_positions.Goals as goal

@@ -1,11 +1,8 @@
 -- `challenge::ascending` meets its contract: each position before k - 1 is below its next one. Assumes nothing.
 use native.Mathlib.Omega.{arith}
 use mathlib.Core.Path.{◌≡◌, sym, ap, ◌∙◌}
-use mathlib.Core.Bool.{Bool, true}
-use mathlib.Core.List.{List}
-use Prim.Native.Nat.{ℕ, suc, ◌≤◌, ◌+◌, ◌-◌}
-use lib.Dec.{ltb}
-use lib.ListN.{length, get_or}
+use Prim.Native.Nat.{◌+◌, ◌-◌}
+use lib.ListN.{get_or}
 use borrow.Author.Tests.{le-ltb, lt-ltb}
 use Rattle.checks.specs.Checks.{all_below}
 use Rattle.checks.proofs.AllBelow.{all_none, all_more, all_broken, all_done}

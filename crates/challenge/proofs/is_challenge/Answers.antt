@@ -1,5 +1,4 @@
 -- `challenge::is_challenge` meets its contract. Assumes nothing.
-use borrow.Author.Rules.{rules}
 use mathlib.Core.Path.{ap}
 use mathlib.Core.Bool.{Bool, ◌&&◌}
 use lib.ListN.{length}

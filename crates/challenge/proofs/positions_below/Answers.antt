@@ -1,13 +1,8 @@
 -- `challenge::positions_below` meets its contract: the positions before k are below n. Assumes nothing.
 use native.Mathlib.Omega.{arith}
-use mathlib.Core.Path.{◌≡◌, sym}
-use mathlib.Core.Bool.{Bool, true}
-use mathlib.Core.List.{List}
-use Prim.Native.Nat.{ℕ, ◌≤◌, ◌-◌}
-use lib.Dec.{ltb}
-use lib.ListN.{length, get_or}
+use mathlib.Core.Path.{sym}
+use lib.ListN.{get_or}
 use borrow.Author.Tests.{le-ltb, lt-ltb}
-use Rattle.checks.specs.Checks.{all_below}
 use Rattle.checks.proofs.AllBelow.{all_none, all_more, all_broken, all_done}
 use Rattle.challenge.specs.Challenge.{positions_below}
 use Rattle.challenge.proofs.positions_below.Invariants.{is_below}

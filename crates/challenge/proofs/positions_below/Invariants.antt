@@ -1,14 +1,10 @@
-use native.Mathlib.Omega.{arith}
-use mathlib.Core.Path.{◌≡◌, sym}
+use mathlib.Core.Path.{◌≡◌}
 use mathlib.Core.Bool.{Bool, true}
 use mathlib.Core.List.{List}
 use Prim.Native.Nat.{ℕ, ◌≤◌, ◌-◌}
 use lib.Dec.{ltb}
 use lib.ListN.{length, get_or}
-use borrow.Author.Tests.{le-ltb, lt-ltb}
 use Rattle.checks.specs.Checks.{all_below}
-use Rattle.checks.proofs.AllBelow.{all_none, all_more, all_broken, all_done}
-use Rattle.challenge.specs.Challenge.{positions_below}
 use Rattle.challenge.proofs.positions_below.Given as goal
 
 abbrev pub is_below : (n : ℕ) (challenge : List ℕ) (k : ℕ) → Bool

@@ -1,7 +1,6 @@
 -- `challenge_product::half` meets its contract: after i outputs, what is done and what the others give are the half. Assumes nothing.
-use borrow.Author.Rules.{rules}
 use mathlib.Core.Path.{◌≡◌, ap, ◌∙◌}
-use Prim.Native.Nat.{ℕ, ◌+◌, ◌-◌, ◌*◌, ◌≤◌}
+use Prim.Native.Nat.{ℕ, ◌+◌, ◌*◌, ◌≤◌}
 use native.Mathlib.Nat.{mul-le-mul_right}
 use native.Mathlib.Omega.{arith}
 use lib.ListN.{length, set}
@@ -11,7 +10,7 @@ use mir.Val.{to_z, of_z}
 use Rattle.signed.proofs.Signs.{read_back}
 use Rattle.challenge_product.specs.Product.{output_at}
 use Rattle.challenge_product.proofs.ProductSizes.{output_within, half_bound}
-use Rattle.challenge_product.proofs.HalfByOutputs.{square_fits, Halved, half_start, half_more, half_end}
+use Rattle.challenge_product.proofs.HalfByOutputs.{square_fits, half_start, half_more, half_end}
 use Rattle.challenge_product.proofs.half.Goals as goal
 use Rattle.challenge_product.proofs.half.Lts as lts
 use Rattle.challenge_product.proofs.half.Reads as reads
@@ -90,6 +89,6 @@ loop-i-preserved c =
     (ap (λ (m : ℕ). l.squares + m) (square_is c.before))
 
 pub returns : goal.returns
-returns c = 
+returns c =
     let all = half_end c.loop-i.invariant c.loop-i-test.false in
     record { value = all.0; z_after = all.1.0; list_after = all.1.1 }

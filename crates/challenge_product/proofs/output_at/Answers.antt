@@ -1,16 +1,14 @@
 -- `challenge_product::output_at` meets its contract: after k positions the sum and what the others add are the output. Assumes nothing.
-use borrow.Author.Rules.{rules}
 use mathlib.Core.Path.{◌≡◌, ap, ◌∙◌}
-use Prim.Native.Nat.{◌-◌, ◌≤◌}
+use Prim.Native.Nat.{◌≤◌}
 use native.Mathlib.Omega.{arith}
-use lib.ListN.{length}
 use lib.IntN.{ℤ, nat_abs, ◌+ℤ◌}
 use mir.Syntax.{w32}
 use mir.Val.{to_z, of_z}
 use Rattle.signed.proofs.Signs.{read_back}
 use Rattle.challenge.proofs.Positions.{position_below}
 use Rattle.challenge_product.proofs.ProductSizes.{term_within}
-use Rattle.challenge_product.proofs.OutputByPositions.{Summed, sum_start, sum_more, sum_end}
+use Rattle.challenge_product.proofs.OutputByPositions.{sum_start, sum_more, sum_end}
 use Rattle.challenge_product.proofs.output_at.Goals as goal
 use Rattle.challenge_product.proofs.output_at.Goals.{After-term_at-term}
 

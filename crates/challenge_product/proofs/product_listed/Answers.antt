@@ -1,9 +1,7 @@
 -- `challenge_product::product_listed` meets its contract: before each half, what is done and what is left are the product. Assumes nothing.
-use borrow.Author.Rules.{rules}
 use mathlib.Core.Path.{sym, ◌∙◌}
-use Prim.Native.Nat.{◌-◌, ◌*◌}
 use native.Mathlib.Omega.{arith}
-use Rattle.challenge_product.proofs.ProductByHalves.{Turn, turn_start, turn_z_size, turn_list_size}
+use Rattle.challenge_product.proofs.ProductByHalves.{turn_start, turn_z_size, turn_list_size}
 use Rattle.challenge_product.proofs.ProductByHalves.{turn_below, turn_room, turn_small, turn_more, turn_end}
 use Rattle.challenge_product.proofs.product_listed.Goals as goal
 
@@ -45,6 +43,6 @@ pub shape_of-list : goal.shape_of-list
 shape_of-list c = turn_list_size c.loop-base.invariant
 
 pub returns : goal.returns
-returns c = 
+returns c =
     let all = turn_end c.loop-base.invariant c.loop-base-test.false in
     record { value = all.0; z_after = all.1.0; list_after = all.1.1 }

@@ -1,5 +1,4 @@
 -- `challenge_product::term_at` meets its contract: the position wraps or not. Assumes nothing.
-use borrow.Author.Rules.{rules}
 use borrow.Author.Tests.{le-leb, lt-leb}
 use mathlib.Core.Path.{ap, ◌∙◌}
 use native.Mathlib.Nat.{lt_of_le_of_lt}

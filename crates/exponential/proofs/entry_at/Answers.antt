@@ -1,5 +1,4 @@
 -- `exponential::entry_at` meets its contract: the constant is the table of the definition. Assumes nothing.
-use borrow.Author.Rules.{rules}
 use Rattle.exponential.specs.Exponential.{polynomial, entries_from, factorial}
 use Rattle.exponential.proofs.Table.{table_at}
 use Rattle.exponential.proofs.entry_at.Goals as goal

@@ -1,18 +1,13 @@
 -- `exponential::evaluate_listed` meets its contract. The loop's invariant: the evaluation is under way, and the entries left, from the
 -- list as it is, give the list. Assumes nothing.
-use borrow.Author.Rules.{rules}
-use mathlib.Core.Path.{◌≡◌, refl, ◌∙◌}
-use mathlib.Core.List.{List}
-use Prim.Native.Nat.{ℕ, ◌≤◌, ◌<◌, ◌+◌}
+use mathlib.Core.Path.{refl, ◌∙◌}
+use Prim.Native.Nat.{◌<◌}
 use native.Mathlib.Numerals.{add-one}
 use native.Mathlib.Omega.{arith}
-use lib.ListN.{length, length-set}
-use lib.Seq.{sets}
-use Rattle.read_list.specs.Entries.{places_down}
+use lib.ListN.{length-set}
 use Rattle.read_list.proofs.Runs.{places_down_step, places_down_end}
 use Rattle.exponential.proofs.Steps.{table_length}
-use Rattle.exponential.proofs.Steps.{Evaluating, evaluating_starts, evaluating_asks, evaluating_goes_on, evaluating_ends}
-use Rattle.exponential.proofs.evaluate_listed.Invariants.{Turn}
+use Rattle.exponential.proofs.Steps.{evaluating_starts, evaluating_asks, evaluating_goes_on, evaluating_ends}
 use Rattle.exponential.proofs.evaluate_listed.Goals as goal
 
 -- ** The states, each from the one after it

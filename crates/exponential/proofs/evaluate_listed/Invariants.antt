@@ -1,15 +1,10 @@
-use borrow.Author.Rules.{rules}
-use mathlib.Core.Path.{◌≡◌, refl, ◌∙◌}
+use mathlib.Core.Path.{◌≡◌}
 use mathlib.Core.List.{List}
-use Prim.Native.Nat.{ℕ, ◌≤◌, ◌<◌, ◌+◌}
-use native.Mathlib.Numerals.{add-one}
-use native.Mathlib.Omega.{arith}
-use lib.ListN.{length, length-set}
+use Prim.Native.Nat.{ℕ, ◌≤◌, ◌+◌}
+use lib.ListN.{length}
 use lib.Seq.{sets}
 use Rattle.read_list.specs.Entries.{places_down}
-use Rattle.read_list.proofs.Runs.{places_down_step, places_down_end}
-use Rattle.exponential.proofs.Steps.{table_length}
-use Rattle.exponential.proofs.Steps.{Evaluating, evaluating_starts, evaluating_asks, evaluating_goes_on, evaluating_ends}
+use Rattle.exponential.proofs.Steps.{Evaluating}
 use Rattle.exponential.proofs.evaluate_listed.Given as goal
 
 pub record Turn (table : List ℕ) (v at : ℕ) (list₀ list : List ℕ) (a j place : ℕ) : Type 0 where

@@ -1,8 +1,7 @@
 -- `exponential::evaluate_unlisted` meets its contract. The loop's invariant: the evaluation is under way. Assumes nothing.
-use borrow.Author.Rules.{rules}
 use native.Mathlib.Omega.{arith}
 use Rattle.exponential.proofs.Steps.{table_length}
-use Rattle.exponential.proofs.Steps.{Evaluating, evaluating_starts, evaluating_asks, evaluating_goes_on, evaluating_ends}
+use Rattle.exponential.proofs.Steps.{evaluating_starts, evaluating_asks, evaluating_goes_on, evaluating_ends}
 use Rattle.exponential.proofs.evaluate_unlisted.Goals as goal
 
 -- ** The states, each from the one after it

@@ -1,7 +1,4 @@
-use borrow.Author.Rules.{rules}
-use native.Mathlib.Omega.{arith}
-use Rattle.exponential.proofs.Steps.{table_length}
-use Rattle.exponential.proofs.Steps.{Evaluating, evaluating_starts, evaluating_asks, evaluating_goes_on, evaluating_ends}
+use Rattle.exponential.proofs.Steps.{Evaluating}
 use Rattle.exponential.proofs.evaluate_unlisted.Given as goal
 
 abbrev pub invariant-loop-j : goal.invariant-loop-j

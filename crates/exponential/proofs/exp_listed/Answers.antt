@@ -1,5 +1,4 @@
 -- `exponential::exp_listed` meets its contract. Assumes nothing.
-use borrow.Author.Rules.{rules}
 use Rattle.exponential.proofs.Steps.{exp_in_steps}
 use Rattle.exponential.proofs.exp_listed.Goals as goal
 

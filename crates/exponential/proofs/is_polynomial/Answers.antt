@@ -1,12 +1,11 @@
 -- `exponential::is_polynomial` meets its contract. The loop's invariant: the entries passed are those of the polynomial table.
 -- Assumes nothing.
-use borrow.Author.Rules.{rules}
-use mathlib.Core.Path.{◌≡◌, refl, sym, ap, ◌∙◌}
+use mathlib.Core.Path.{refl, sym, ap, ◌∙◌}
 use mathlib.Core.List.{List}
-use Prim.Native.Nat.{ℕ, ◌≤◌, ◌<◌, ◌-◌}
+use Prim.Native.Nat.{ℕ}
 use native.Mathlib.Omega.{arith}
 use borrow.Author.Count.{below_more}
-use lib.ListN.{length, get_or}
+use lib.ListN.{get_or}
 use lib.Seq.{ext_get_or}
 use Rattle.exponential.specs.Exponential.{polynomial}
 use Rattle.exponential.proofs.Table.{table_at, is_polynomial_lem, not_polynomial}

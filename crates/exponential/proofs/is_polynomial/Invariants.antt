@@ -1,14 +1,7 @@
-use borrow.Author.Rules.{rules}
-use mathlib.Core.Path.{◌≡◌, refl, sym, ap, ◌∙◌}
-use mathlib.Core.List.{List}
+use mathlib.Core.Path.{◌≡◌}
 use Prim.Native.Nat.{ℕ, ◌≤◌, ◌<◌, ◌-◌}
-use native.Mathlib.Omega.{arith}
-use borrow.Author.Count.{below_more}
 use lib.ListN.{length, get_or}
-use lib.Seq.{ext_get_or}
 use Rattle.exponential.specs.Exponential.{polynomial}
-use Rattle.exponential.proofs.Table.{table_at, is_polynomial_lem, not_polynomial}
-use Rattle.exponential.proofs.Steps.{table_length}
 use Rattle.exponential.proofs.is_polynomial.Given as goal
 
 abbrev pub invariant-loop-j : goal.invariant-loop-j

@@ -1,5 +1,4 @@
 -- `exponential::next_value` meets its contract: the product is at most a, and a at most the entry. Assumes nothing.
-use borrow.Author.Rules.{rules}
 use native.Mathlib.Nat.{le_of_lt}
 use native.Mathlib.Omega.{arith}
 use Rattle.exponential.proofs.Table.{product_small}

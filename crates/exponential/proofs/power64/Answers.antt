@@ -1,6 +1,6 @@
 -- `exponential::power64` meets its contract. The loop's invariant: the squarings left, of a, give the answer. Assumes nothing.
-use mathlib.Core.Path.{◌≡◌, refl, ap, ◌∙◌}
-use Prim.Native.Nat.{ℕ, ◌≤◌, ◌^◌, ◌-◌}
+use mathlib.Core.Path.{refl, ap, ◌∙◌}
+use Prim.Native.Nat.{ℕ, ◌-◌}
 use native.Mathlib.Omega.{arith}
 use Rattle.exponential.specs.Exponential.{squarings}
 use Rattle.exponential.proofs.Steps.{squarings_step, squarings_end}

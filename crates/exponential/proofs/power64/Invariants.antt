@@ -1,8 +1,6 @@
-use mathlib.Core.Path.{◌≡◌, refl, ap, ◌∙◌}
-use Prim.Native.Nat.{ℕ, ◌≤◌, ◌^◌, ◌-◌}
-use native.Mathlib.Omega.{arith}
+use mathlib.Core.Path.{◌≡◌}
+use Prim.Native.Nat.{◌≤◌, ◌^◌}
 use Rattle.exponential.specs.Exponential.{squarings}
-use Rattle.exponential.proofs.Steps.{squarings_step, squarings_end}
 use Rattle.exponential.proofs.power64.Given as goal
 
 abbrev pub invariant-loop-left : goal.invariant-loop-left

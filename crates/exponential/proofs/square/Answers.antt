@@ -1,5 +1,4 @@
 -- `exponential::square` meets its contract. Assumes nothing.
-use borrow.Author.Rules.{rules}
 use native.Mathlib.Omega.{arith}
 use Rattle.exponential.specs.Exponential.{squared}
 use Rattle.exponential.proofs.Table.{squared_small}

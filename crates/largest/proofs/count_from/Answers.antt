@@ -1,18 +1,16 @@
 -- `largest::count_from` meets its contract: before turn j the count is n, less those of the first j values that are below t. Assumes nothing.
-use borrow.Author.Rules.{rules, sfits_of}
-use mathlib.Core.Path.{◌≡◌, refl, ap₂, ◌∙◌}
-use mathlib.Core.Bool.{Bool, true, false, not, cond}
-use Prim.Native.Nat.{ℕ, ◌+◌, ◌-◌, ◌≤◌}
+use borrow.Author.Rules.{sfits_of}
+use mathlib.Core.Path.{◌≡◌, ap₂, ◌∙◌}
+use Prim.Native.Nat.{ℕ, ◌+◌, ◌≤◌}
 use native.Mathlib.Omega.{arith}
-use lib.IntN.{ℤ, pos, negsuc}
-use lib.Signed.{le_z, lt_z}
+use lib.IntN.{ℤ}
+use lib.Signed.{lt_z}
 use mir.Syntax.{w32}
 use mir.Val.{to_z, of_z, bool_byte}
 use Rattle.signed.proofs.Signs.{read_back}
-use Rattle.checks.proofs.JoinedTests.{below_not_above}
 use Rattle.largest.specs.Threshold.{value_at, sum_over, reaches}
 use Rattle.largest.proofs.Threshold.{sum_none, sum_more}
-use Rattle.largest.proofs.count_from.Invariants.{below_not_reaching, below_or_reaching}
+use Rattle.largest.proofs.count_from.Invariants.{below_or_reaching}
 use Rattle.largest.proofs.count_from.Goals as goal
 use Rattle.largest.proofs.count_from.Goals.{After-value-1}
 

@@ -1,16 +1,11 @@
-use borrow.Author.Rules.{rules, sfits_of}
-use mathlib.Core.Path.{◌≡◌, refl, ap₂, ◌∙◌}
+use mathlib.Core.Path.{◌≡◌, refl}
 use mathlib.Core.Bool.{Bool, true, false, not, cond}
-use Prim.Native.Nat.{ℕ, ◌+◌, ◌-◌, ◌≤◌}
-use native.Mathlib.Omega.{arith}
+use Prim.Native.Nat.{◌+◌, ◌-◌, ◌≤◌}
 use lib.IntN.{ℤ, pos, negsuc}
 use lib.Signed.{le_z, lt_z}
-use mir.Syntax.{w32}
-use mir.Val.{to_z, of_z, bool_byte}
-use Rattle.signed.proofs.Signs.{read_back}
+use mir.Val.{bool_byte}
 use Rattle.checks.proofs.JoinedTests.{below_not_above}
 use Rattle.largest.specs.Threshold.{value_at, sum_over, reaches}
-use Rattle.largest.proofs.Threshold.{sum_none, sum_more}
 use Rattle.largest.proofs.count_from.Given as goal
 
 -- a value is below t, or reaches it

@@ -1,8 +1,8 @@
 -- `largest::excess_over` meets its contract: before turn j the sum is that of the first j values. Assumes nothing.
-use borrow.Author.Rules.{rules, sfits_of}
-use mathlib.Core.Path.{◌≡◌, sym, ap, ap₂, ◌∙◌}
+use borrow.Author.Rules.{sfits_of}
+use mathlib.Core.Path.{◌≡◌, sym, ap, ◌∙◌}
 use mathlib.Core.Bool.{cond}
-use Prim.Native.Nat.{ℕ, ◌+◌, ◌-◌, ◌≤◌}
+use Prim.Native.Nat.{◌+◌}
 use native.Mathlib.Omega.{arith}
 use lib.IntN.{ℤ, pos, ◌+ℤ◌, ◌-ℤ◌}
 use lib.Signed.{le_z}
@@ -67,7 +67,7 @@ sum_fits : (c : After-kept-sum) → SFits w32 (to_z w32 c.loop-j.sum-bits +ℤ t
 sum_fits c =
     let a = c.args in
     let small = excess_small a.t (value_at a.values.now) a.n c.requires.1 c.requires.0.small c.requires.2 (c.loop-j.j + 1)
-        (omega (arith, c.loop-j-test.true)) in
+    (omega (arith, c.loop-j-test.true)) in
     rw (summed c) (fits_of_abs (omega (arith, small)))
 
 pub overflow_add-sum : goal.overflow_add-sum

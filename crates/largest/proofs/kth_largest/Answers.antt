@@ -1,5 +1,4 @@
 -- `largest::kth_largest` meets its contract: before each turn the k-th largest is in t .. t + width - 1. Assumes nothing.
-use borrow.Author.Rules.{rules}
 use mathlib.Core.Path.{◌≡◌}
 use mathlib.Core.Bool.{cond}
 use lib.Dec.{lit<, leb}

@@ -1,7 +1,7 @@
 -- `read_list::filled` meets its contract: the test is that of `filled_part`, and a part that starts at 0 starts where the list does.
 -- Assumes nothing.
 use borrow.Author.Tests.{le-leb, lt-leb}
-use mathlib.Core.Path.{refl, sym}
+use mathlib.Core.Path.{sym}
 use lib.Seq.{length-take-le}
 use Rattle.read_list.specs.Entries.{filled_part}
 use Rattle.read_list.proofs.filled.Goals as goal

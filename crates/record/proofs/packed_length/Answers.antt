@@ -1,5 +1,4 @@
 -- `record::packed_length` meets its contract: the entry, or 0. Assumes nothing.
-use borrow.Author.Rules.{rules}
 use native.Mathlib.Omega.{arith}
 use mathlib.Core.Path.{sym}
 use Rattle.record.proofs.Lengths.{packed_entry, packed_none}

@@ -1,17 +1,14 @@
 -- `sampler::draw` meets its contract, full or spent: the loop's invariant is `Turn`. Assumes nothing.
-use borrow.Author.Rules.{rules}
 use mathlib.Core.Path.{◌≡◌, ◌∙◌}
-use Prim.Native.Nat.{◌<◌, ◌-◌, ◌*◌, ◌≤◌}
+use Prim.Native.Nat.{◌<◌, ◌*◌, ◌≤◌}
 use native.Mathlib.Omega.{arith}
 use lib.Dec.{ltb}
 use lib.ListN.{length}
 use borrow.Author.Tests.{ltb-true}
 use Rattle.checks.proofs.JoinedTests.{both_true}
-use Rattle.exponential.specs.Exponential.{exp_scaled}
-use Rattle.attempt.specs.Attempt.{bit_at, sample_at}
 use Rattle.sampler.specs.Draw.{draw_bits}
 use Rattle.arithmetic.proofs.Bits.{bit_le}
-use Rattle.sampler.proofs.DrawByAttempts.{Turn, turn_start, turn_more, turn_end}
+use Rattle.sampler.proofs.DrawByAttempts.{turn_start, turn_more, turn_end}
 use Rattle.sampler.proofs.WholeDraw.{full, spent}
 use Rattle.sampler.proofs.draw.Goals as goal
 use Rattle.sampler.proofs.draw.Goals.{At-loop-t, In-loop-t}
@@ -42,14 +39,17 @@ pub attempt-accepted-requires : goal.attempt-accepted-requires
 attempt-accepted-requires c =
     let s = c.requires in
     let r = c.loop-t.invariant in
-    let b = inside (goal.at.attempt-accepted-requires c).In-loop-t in record { tables = s.tables; t_bound = (
+    let b = inside (goal.at.attempt-accepted-requires c).In-loop-t in record {
+      tables = s.tables;
+      t_bound = (
         omega (arith, b.0, s.degree_bound.1),
         omega (arith, b.0, s.degree_bound.2),
         omega (arith, b.1, r.same_y, s.degree_bound.3),
         omega (arith, b.1, s.degree_bound.0),
         omega (arith, b.0, r.here, same_list (goal.at.attempt-accepted-requires c).At-loop-t, s.degree_bound.4),
         omega (arith, b.0, r.here, s.degree_bound.1),
-      ) }
+      );
+    }
 
 pub overflow_cast-k : goal.overflow_cast-k
 overflow_cast-k c = tt

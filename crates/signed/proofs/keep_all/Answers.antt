@@ -1,17 +1,12 @@
 -- `signed::keep_all` meets its contract: after i turns the first i values are kept or zero, and the others stand. Assumes nothing.
-use borrow.Author.Rules.{rules}
-use mathlib.Core.Path.{◌≡◌, refl, ap, ap₂, ◌∙◌}
-use mathlib.Core.Bool.{Bool, true, false, cond}
-use mathlib.Core.List.{List, ◌++◌}
-use Prim.Native.Nat.{ℕ, ◌+◌, ◌≤◌, ◌<◌, ◌-◌}
+use mathlib.Core.Path.{◌≡◌, refl, ap, ◌∙◌}
+use mathlib.Core.Bool.{cond}
 use native.Mathlib.Omega.{arith}
 use lib.IntN.{ℤ, pos}
-use lib.ListN.{length, replicate, drop, set, get_or, length-set}
-use lib.Seq.{set-get_or}
+use lib.ListN.{get_or, length-set}
 use mir.Syntax.{w32}
 use mir.Val.{to_z, of_z}
 use Rattle.signed.proofs.Signs.{read_back}
-use Rattle.lists.proofs.Filling.{fill_more, fill_all}
 use Rattle.signed.proofs.keep_all.Invariants.{keep_more, keep_start, keep_end}
 use Rattle.signed.proofs.keep_all.Goals as goal
 use Rattle.signed.proofs.keep_all.Goals.{After-kept-v}

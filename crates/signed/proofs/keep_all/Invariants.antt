@@ -1,15 +1,10 @@
-use borrow.Author.Rules.{rules}
 use mathlib.Core.Path.{◌≡◌, refl, ap, ap₂, ◌∙◌}
 use mathlib.Core.Bool.{Bool, true, false, cond}
 use mathlib.Core.List.{List, ◌++◌}
 use Prim.Native.Nat.{ℕ, ◌+◌, ◌≤◌, ◌<◌, ◌-◌}
-use native.Mathlib.Omega.{arith}
 use lib.IntN.{ℤ, pos}
-use lib.ListN.{length, replicate, drop, set, get_or, length-set}
+use lib.ListN.{length, replicate, drop, set, get_or}
 use lib.Seq.{set-get_or}
-use mir.Syntax.{w32}
-use mir.Val.{to_z, of_z}
-use Rattle.signed.proofs.Signs.{read_back}
 use Rattle.lists.proofs.Filling.{fill_more, fill_all}
 use Rattle.signed.proofs.keep_all.Given as goal
 

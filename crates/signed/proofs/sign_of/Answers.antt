@@ -1,5 +1,4 @@
 -- `signed::sign_of` meets its contract: 0 and 1 are the only bits. Assumes nothing.
-use borrow.Author.Rules.{rules}
 use Rattle.signed.proofs.Signs.{sign_of}
 use Rattle.signed.proofs.sign_of.Goals as goal
 

@@ -1,5 +1,4 @@
 -- `signed::size_of` meets its contract: a number times its sign. Assumes nothing.
-use borrow.Author.Rules.{rules}
 use mathlib.Core.Path.{◌≡◌, refl, ap, ◌∙◌}
 use mathlib.Core.Bool.{Bool, true, false}
 use Prim.Native.Nat.{◌*◌, ◌^◌, ◌<◌}

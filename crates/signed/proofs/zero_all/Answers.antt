@@ -1,11 +1,10 @@
 -- `signed::zero_all` meets its contract: after i turns the first i values are zero, and the others stand. Assumes nothing.
-use borrow.Author.Rules.{rules}
-use mathlib.Core.Path.{◌≡◌, ap, ◌∙◌}
-use mathlib.Core.List.{List, ◌++◌}
-use Prim.Native.Nat.{◌≤◌, ◌<◌, ◌-◌}
+use mathlib.Core.Path.{ap, ◌∙◌}
+use mathlib.Core.List.{List}
+use Prim.Native.Nat.{◌<◌}
 use native.Mathlib.Omega.{arith}
 use lib.IntN.{ℤ, pos}
-use lib.ListN.{length, replicate, drop, set, length-set}
+use lib.ListN.{length, set, length-set}
 use Rattle.lists.proofs.Filling.{fill_more, fill_all}
 use Rattle.signed.proofs.zero_all.Goals as goal
 

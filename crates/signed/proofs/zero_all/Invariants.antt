@@ -1,11 +1,8 @@
-use borrow.Author.Rules.{rules}
-use mathlib.Core.Path.{◌≡◌, ap, ◌∙◌}
-use mathlib.Core.List.{List, ◌++◌}
-use Prim.Native.Nat.{◌≤◌, ◌<◌, ◌-◌}
-use native.Mathlib.Omega.{arith}
-use lib.IntN.{ℤ, pos}
-use lib.ListN.{length, replicate, drop, set, length-set}
-use Rattle.lists.proofs.Filling.{fill_more, fill_all}
+use mathlib.Core.Path.{◌≡◌}
+use mathlib.Core.List.{◌++◌}
+use Prim.Native.Nat.{◌≤◌, ◌-◌}
+use lib.IntN.{pos}
+use lib.ListN.{length, replicate, drop}
 use Rattle.signed.proofs.zero_all.Given as goal
 
 abbrev pub invariant-loop-i : goal.invariant-loop-i
