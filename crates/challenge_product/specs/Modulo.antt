@@ -1,6 +1,7 @@
 -- The challenge product is the product of two polynomials modulo X ^ n + 1: of a half of the key,
 -- s[0] + s[1] * X + .. + s[n - 1] * X ^ (n - 1), and of the challenge, the sum of X ^ c over its positions c. Assumes nothing.
-use Rattle.std.specs.Prelude.{◌≡◌, cond, ◌&&◌, List, [], ◌∷◌, ◌++◌, ℕ, ◌+◌, ◌-◌, ◌*◌, ◌≤◌, ◌<◌, leb, ltb, length, get_or, ℤ, pos, neg_ℤ, ◌+ℤ◌, ◌-ℤ◌}
+use Rattle.std.specs.Prelude.{◌≡◌, cond, ◌&&◌, List, [], ◌∷◌, ◌++◌, ℕ, ◌+◌, ◌-◌, ◌*◌, ◌≤◌}
+use Rattle.std.specs.Prelude.{◌<◌, leb, ltb, length, get_or, ℤ, pos, neg_ℤ, ◌+ℤ◌, ◌-ℤ◌}
 use Rattle.challenge_product.specs.Product.{output_at}
 
 -- the coefficient of X ^ k in a half times X ^ c

@@ -1,6 +1,7 @@
 -- The challenge product of document 01, modulo X^n + 1, and the entries of its reads. A half of the key is told by its base, where it
 -- starts: s1 at 0 and s2 at n. Assumes nothing.
-use Rattle.std.specs.Prelude.{◌≡◌, true, cond, List, [], ◌∷◌, ◌++◌, ℕ, zero, suc, ◌+◌, ◌-◌, ◌*◌, ◌≤◌, leb, length, get_or, ℤ, pos, neg_ℤ, ◌+ℤ◌}
+use Rattle.std.specs.Prelude.{◌≡◌, true, cond, List, [], ◌∷◌, ◌++◌, ℕ, zero, suc, ◌+◌}
+use Rattle.std.specs.Prelude.{◌-◌, ◌*◌, ◌≤◌, leb, length, get_or, ℤ, pos, neg_ℤ, ◌+ℤ◌}
 use Rattle.read_list.specs.Entries.{entry}
 use Rattle.signed.specs.Vectors.{all_within}
 use Rattle.challenge.specs.Challenge.{most_positions, positions_below}

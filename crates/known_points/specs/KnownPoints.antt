@@ -1,7 +1,8 @@
 -- The known points of document 01 that form its table, those marked with a star there, and points of our own: what the definitions that
 -- the contracts cite give. A word that a point leaves open is any word; negsuc k is -(k + 1). proofs/KnownPoints.antt has the one proof of
 -- all. Assumes nothing.
-use Rattle.std.specs.Prelude.{◌≡◌, Bool, true, false, List, [], ◌∷◌, ◌++◌, ℕ, ◌+◌, ◌-◌, ◌*◌, ◌^◌, ◌<◌, ℤ, pos, negsuc, take, drop, replicate}
+use Rattle.std.specs.Prelude.{◌≡◌, Bool, true, false, List, [], ◌∷◌, ◌++◌, ℕ, ◌+◌, ◌-◌}
+use Rattle.std.specs.Prelude.{◌*◌, ◌^◌, ◌<◌, ℤ, pos, negsuc, take, drop, replicate}
 use Rattle.signed.specs.Vectors.{square_sum}
 use Rattle.exponential.specs.Exponential.{polynomial, reciprocal, divisor, limit, attempt_limit, exp, exp_with, exp_or_refusal}
 use Rattle.base_sample.specs.BaseSample.{is_cdt, base_sample}
