@@ -2,10 +2,13 @@
 // (refusal, attempts, accepted, entries); the next session (degree, deviation, drawn); y; and the read list (length, first and last entry
 // of its filled part, and a sum over the whole of the memory). y is a part of nine fives and the list a part of 5,940 sevens, so that what
 // is not written is seen. The files stdin and stdout beside src/ are written by points.py, another program.
-ghost use Rattle.std.specs.Prelude.{◌≡◌, ◌^◌, ◌<◌, ◌≤◌, length};
+#![tactic(auto)]
 
-use libc::{STDIN_FILENO, STDOUT_FILENO};
+ghost use Rattle.std.specs.Prelude.{◌≡◌, ◌^◌, ◌<◌, ◌≤◌, length, IfOk};
+
 use session::{DrawAnswer, Drawn, Opened, Session};
+use std::io;
+use std::io::{BufReader, BufWriter, Read, Write};
 
 // A row has 23 columns, each of a byte that sets it off and 16 hexadecimal digits. After a row with a CDT table and one with a polynomial
 // table come draws over them, as many as the last column of the CDT table's row says.
@@ -43,9 +46,8 @@ const DEVIATION: usize = 15;
 
 const DRAWN: usize = 16;
 
-fn number(n: u64) {
-    io::write_all(STDOUT_FILENO, b" ");
-    io::print_decimal(STDOUT_FILENO, n);
+fn number<W: Write>(out: &mut W, n: u64) -> io::Result<()> {
+    write!(out, " {n}")
 }
 
 // n + 2^32, which is not negative.
@@ -53,23 +55,21 @@ fn lifted(n: i32) -> u64 {
     (n as i64 + 0x1_0000_0000) as u64
 }
 
-fn signed_number(n: i32) {
+fn signed_number<W: Write>(out: &mut W, n: i32) -> io::Result<()> {
     let place = lifted(n);
     if place < 0x1_0000_0000 {
-        io::write_all(STDOUT_FILENO, b" -");
-        io::print_decimal(STDOUT_FILENO, 0x1_0000_0000 - place);
+        let size = 0x1_0000_0000 - place;
+        write!(out, " -{size}")
     } else {
-        number(place - 0x1_0000_0000);
+        number(out, place - 0x1_0000_0000)
     }
 }
 
-fn show_y(y: &[i32]) {
-    let mut i: usize = 0;
-    while i < y.len() {
-        signed_number(y[i]);
-        i += 1;
+fn show_y<W: Write>(out: &mut W, y: &[i32]) -> io::Result<()> {
+    for value in y {
+        signed_number(out, *value)?;
     }
-    io::write_all(STDOUT_FILENO, b";");
+    write!(out, ";")
 }
 
 fn widened(entry: u32) -> u64
@@ -81,38 +81,36 @@ fn widened(entry: u32) -> u64
 // A sum in which each entry counts by its place.
 fn sum_of(list: &[u32]) -> u64 {
     let mut sum: u64 = 0;
-    let mut i: usize = 0;
-    while i < list.len() {
-        sum = (sum * 1000003 + widened(list[i])) % 2147483647;
-        i += 1;
+    for entry in list {
+        sum = (sum * 1000003 + widened(*entry)) % 2147483647;
     }
     sum
 }
 
-fn show_list(list: &[u32], count: usize) {
+fn show_list<W: Write>(out: &mut W, list: &[u32], count: usize) -> io::Result<()> {
     let part = read_list::filled(list, count);
-    number(part.len() as u64);
+    number(out, part.len() as u64)?;
     if 0 < part.len() {
-        number(widened(part[0]));
-        number(widened(part[part.len() - 1]));
+        number(out, widened(part[0]))?;
+        number(out, widened(part[part.len() - 1]))?;
     }
-    number(sum_of(list));
-    io::write_all(STDOUT_FILENO, b"\n");
+    number(out, sum_of(list))?;
+    writeln!(out)
 }
 
-fn show_answer(answer: DrawAnswer) {
-    number(answer.refusal as u64);
-    number(answer.attempts as u64);
-    number(answer.accepted as u64);
-    number(answer.entries as u64);
-    io::write_all(STDOUT_FILENO, b";");
+fn show_answer<W: Write>(out: &mut W, answer: DrawAnswer) -> io::Result<()> {
+    number(out, answer.refusal as u64)?;
+    number(out, answer.attempts as u64)?;
+    number(out, answer.accepted as u64)?;
+    number(out, answer.entries as u64)?;
+    write!(out, ";")
 }
 
-fn show_session(session: Session) {
-    number(session.degree as u64);
-    number(session.deviation);
-    number(session.drawn);
-    io::write_all(STDOUT_FILENO, b";");
+fn show_session<W: Write>(out: &mut W, session: Session) -> io::Result<()> {
+    number(out, session.degree as u64)?;
+    number(out, session.deviation)?;
+    number(out, session.drawn)?;
+    write!(out, ";")
 }
 
 // The value of a digit: those from a on have bit 6, and their low four bits start at 1.
@@ -125,11 +123,9 @@ fn columns(text: &[u8; 391]) -> [u64; 23]
     ensures { 23 ≡ length result }
 {
     let mut row = [0u64; 23];
-    let mut i: usize = 0;
-    while i < 391 {
+    for i in 0..391 {
         let column = i / 17;
         row[column] = row[column] << 4 | digit(text[i]);
-        i += 1;
     }
     row
 }
@@ -148,17 +144,15 @@ fn word_at(row: &[u64; 23], words: &[u64; 516], i: usize) -> u64
     if i < 4 {
         return row[WORDS + i];
     }
-    std::num::wrapping_add_u64(words[i - 4], row[RAISES + i % 4])
+    words[i - 4].wrapping_add(row[RAISES + i % 4])
 }
 
 fn words_of(row: &[u64; 23]) -> [u64; 516]
     ensures { 516 ≡ length result }
 {
     let mut words = [0u64; 516];
-    let mut i: usize = 0;
-    while i < 516 {
+    for i in 0..516 {
         words[i] = word_at(row, &words, i);
-        i += 1;
     }
     words
 }
@@ -213,34 +207,42 @@ fn sevens() -> [u32; 5940]
 }
 
 // Draws, and shows what is left. Hands back the next session.
-fn show_draw(
+fn show_draw<W: Write>(
+    out: &mut W,
     row: &[u64; 23],
     session: Session,
     cdt: &[u64],
     polynomial: &[u64],
     words: &[u64],
-) -> Session {
+) -> io::Result<Session> {
     let mut y = [5i32; 9];
     let mut list = sevens();
     let drawn = draw(row, session, cdt, polynomial, words, &mut y, &mut list);
     let answer = drawn.answer;
-    show_answer(answer);
-    show_session(drawn.session);
-    show_y(&y);
-    show_list(&list, answer.entries);
-    drawn.session
+    show_answer(out, answer)?;
+    show_session(out, drawn.session)?;
+    show_y(out, &y)?;
+    show_list(out, &list, answer.entries)?;
+    Ok(drawn.session)
 }
 
 // The draw of a row, over the first words of each table. Hands back the next session.
-fn call(row: &[u64; 23], before: Session, cdt: &[u64], polynomial: &[u64]) -> Session {
+fn call<W: Write>(
+    out: &mut W,
+    row: &[u64; 23],
+    before: Session,
+    cdt: &[u64],
+    polynomial: &[u64],
+) -> io::Result<Session> {
     let opened = opening(row, before);
-    number(opened.refusal as u64);
-    io::write_all(STDOUT_FILENO, b";");
+    number(out, opened.refusal as u64)?;
+    write!(out, ";")?;
     let words = words_of(row);
     let thresholds = at_most(row[CDT_LENT], cdt.len());
     let coefficients = at_most(row[POLYNOMIAL_LENT], polynomial.len());
     let count = at_most(row[WORDS_LENT], 516);
     show_draw(
+        out,
         row,
         opened.session,
         &cdt[..thresholds],
@@ -249,43 +251,49 @@ fn call(row: &[u64; 23], before: Session, cdt: &[u64], polynomial: &[u64]) -> Se
     )
 }
 
-// The columns of the next row, which are all 0 where stdin has ended.
-fn next_row() -> [u64; 23]
-    ensures { 23 ≡ length result }
+// The columns of the next row. What stdin does not have any more counts as zero bytes.
+fn next_row<R: Read>(input: &mut R) -> io::Result<[u64; 23]>
+    ensures { IfOk result (λ row. 23 ≡ length row) }
 {
     let mut text = [0u8; 391];
-    io::read_full(STDIN_FILENO, &mut text);
-    columns(&text)
+    input.chain(io::repeat(0)).read_exact(&mut text)?;
+    Ok(columns(&text))
 }
 
 // Each draw takes the session that the one before handed back.
-fn draws(count: u64, before: Session, cdt: &[u64], polynomial: &[u64]) -> Session {
+fn draws<R: Read, W: Write>(
+    input: &mut R,
+    out: &mut W,
+    count: u64,
+    before: Session,
+    cdt: &[u64],
+    polynomial: &[u64],
+) -> io::Result<Session> {
     let mut session = before;
-    let mut left = count;
-    while left > 0 {
-        let row = next_row();
-        session = call(&row, session, cdt, polynomial);
-        left -= 1;
+    for _ in 0..count {
+        let row = next_row(input)?;
+        session = call(out, &row, session, cdt, polynomial)?;
     }
-    session
+    Ok(session)
 }
 
-// A proved loop has to end, and nothing says that stdin does: so the tables are counted down, from a number that no run uses up.
-fn main() {
+// A proved loop has to end, and nothing says that stdin does: so the tables are counted, up to a number that no run uses up.
+fn main(rt: HostRuntime) -> io::Result<()> {
+    let mut input = BufReader::new(rt.alloc(), rt.reader())?;
+    let mut out = BufWriter::new(rt.alloc(), io::writer(&rt))?;
     let mut session = Session {
         degree: 0,
         deviation: 0,
         drawn: 0,
     };
-    let mut left = u64::MAX;
-    while left > 0 {
-        let cdt = next_row();
-        let polynomial = next_row();
+    for _ in 0..u64::MAX {
+        let cdt = next_row(&mut input)?;
+        let polynomial = next_row(&mut input)?;
         let count = cdt[COUNT];
         if count == 0 {
-            return;
+            break;
         }
-        session = draws(count, session, &cdt, &polynomial);
-        left -= 1;
+        session = draws(&mut input, &mut out, count, session, &cdt, &polynomial)?;
     }
+    out.flush()
 }

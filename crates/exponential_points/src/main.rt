@@ -1,7 +1,10 @@
 // Prints n and the exponential by n alone, a pair to a line: at n that document 01 names, at 6120 and 1552, where e(n) is farthest above
 // and below the exact fraction, where n is refused, and at a spread of n.
 // The file stdout beside src/ is written by exact.py, another program.
-use libc::STDOUT_FILENO;
+#![tactic(auto)]
+
+use std::io;
+use std::io::{BufWriter, Write};
 
 const NAMED: [u64; 12] = [
     0,
@@ -18,22 +21,18 @@ const NAMED: [u64; 12] = [
     18446744073709551615,
 ];
 
-fn show(n: u64) {
-    io::print_decimal(STDOUT_FILENO, n);
-    io::write_all(STDOUT_FILENO, b" ");
-    io::print_decimal(STDOUT_FILENO, exponential::exp_or_refusal(n));
-    io::write_all(STDOUT_FILENO, b"\n");
+fn show<W: Write>(out: &mut W, n: u64) -> io::Result<()> {
+    let e = exponential::exp_or_refusal(n);
+    writeln!(out, "{n} {e}")
 }
 
-fn main() {
-    let mut i: usize = 0;
-    while i < 12 {
-        show(NAMED[i]);
-        i += 1;
+fn main(rt: HostRuntime) -> io::Result<()> {
+    let mut out = BufWriter::new(rt.alloc(), io::writer(&rt))?;
+    for n in NAMED {
+        show(&mut out, n)?;
     }
-    let mut n: u64 = 9973;
-    while n < 5534960 {
-        show(n);
-        n += 9973;
+    for n in (9973..5534960).step_by(9973) {
+        show(&mut out, n)?;
     }
+    out.flush()
 }
