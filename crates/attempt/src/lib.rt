@@ -91,7 +91,7 @@ pub fn attempt(
     at: usize,
 ) -> bool
     requires tables { Tables cdt.now table.now reciprocal }
-    requires t_bound { (t < 2 ^ 20)
+    requires in_bounds { (t < 2 ^ 20)
         × (4 * t + 4 ≤ length words.now)
         × (k < length y.old)
         × (k < 2 ^ 24)

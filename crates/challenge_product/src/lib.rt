@@ -49,7 +49,7 @@ fn output_at(
     at: usize,
 ) -> i32
     requires factors { Factors key.now n challenge.now }
-    requires base_le_n { (base ≤ n) × (i < n) × (at + length challenge.now ≤ length list.old) }
+    requires in_bounds { (base ≤ n) × (i < n) × (at + length challenge.now ≤ length list.old) }
     ensures { (result ≡ output_at key.now n base i challenge.now)
         × (list.new ≡ sets list.old at (output_entries n base i challenge.now)) }
 {
@@ -75,7 +75,7 @@ fn half(
     at: usize,
 ) -> u64
     requires factors { Factors key.now n challenge.now }
-    requires base_le_n { (base ≤ n)
+    requires in_bounds { (base ≤ n)
         × (length z.old ≡ 2 * n)
         × (at + n * length challenge.now ≤ length list.old) }
     ensures value { result ≡ square_sum (outputs_from key.now n base challenge.now 0 n) }
@@ -107,7 +107,7 @@ pub fn product_listed(
     at: usize,
 ) -> u64
     requires factors { Factors key.now n challenge.now }
-    requires z_len { (length z.old ≡ 2 * n) × (at + 2 * n * length challenge.now ≤ length list.old) }
+    requires in_bounds { (length z.old ≡ 2 * n) × (at + 2 * n * length challenge.now ≤ length list.old) }
     ensures value { result ≡ square_sum (product key.now n challenge.now) }
     ensures z_after { z.new ≡ product key.now n challenge.now }
     ensures list_after { list.new ≡ sets list.old at (product_entries n challenge.now) }

@@ -31,7 +31,7 @@ pub fn draw(
     list: &mut [u32],
 ) -> Counts
     requires tables { Tables cdt.now table.now reciprocal }
-    requires degree_bound { (degree ≤ 2 ^ 20)
+    requires in_bounds { (degree ≤ 2 ^ 20)
         × (limit ≤ 2 ^ 20)
         × (4 * limit ≤ length words.now)
         × (length y.old ≡ 2 * degree)

@@ -21,7 +21,7 @@ exp_listed-e-requires c = (
 
 pub judged-requires : goal.judged-requires
 judged-requires c =
-    (c.scan-x.ensures.1, c.requires.t_bound.2)
+    (c.scan-x.ensures.1, c.requires.in_bounds.2)
 
 pub returns : goal.returns
 returns c =

@@ -41,7 +41,7 @@ room : (c : In-loop-i)
 room c =
     let s = c in
     let more = mul-le-mul_right (length s.args.challenge.now) c.loop-i-test.true in
-    omega (arith, c.loop-i.invariant.place_is, more, s.requires.base_le_n.2)
+    omega (arith, c.loop-i.invariant.place_is, more, s.requires.in_bounds.2)
 
 -- it is read back as it is
 output_is : (c : After-output_at-output) → to_z w32 (of_z w32 c.output_at-output.result) ≡ next_output c.before.before
@@ -60,7 +60,7 @@ loop-i-init c = half_start _ _ _ _ _ _ _
 pub output_at-output-requires : goal.output_at-output-requires
 output_at-output-requires c =
     let s = c.requires in
-    record { factors = s.factors; base_le_n = (s.base_le_n.0, c.loop-i-test.true, omega (arith, room c.before.before, c.loop-i.invariant.list_size)) }
+    record { factors = s.factors; in_bounds = (s.in_bounds.0, c.loop-i-test.true, omega (arith, room c.before.before, c.loop-i.invariant.list_size)) }
 
 pub square-squares-requires : goal.square-squares-requires
 square-squares-requires c =

@@ -40,7 +40,7 @@ term_at-term-requires c =
     let l = c.loop-k in
     let p = c.requires.factors in
     let below = position_below c.args.n c.args.challenge.now l.k p.below c.loop-k-test.true in
-    (p.both, p.small, p.degree, c.requires.base_le_n.0, c.requires.base_le_n.1, below, omega (arith, l.invariant.size, c.requires.base_le_n.2))
+    (p.both, p.small, p.degree, c.requires.in_bounds.0, c.requires.in_bounds.1, below, omega (arith, l.invariant.size, c.requires.in_bounds.2))
 
 pub plus-sum-requires : goal.plus-sum-requires
 plus-sum-requires c =

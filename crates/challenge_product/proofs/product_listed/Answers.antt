@@ -10,14 +10,14 @@ use Rattle.challenge_product.proofs.product_listed.Goals as goal
 -- ** What the code asks for
 
 pub loop-base-init : goal.loop-base-init
-loop-base-init c = turn_start _ _ _ _ _ _ c.requires.z_len.0
+loop-base-init c = turn_start _ _ _ _ _ _ c.requires.in_bounds.0
 
 pub half-squares-requires : goal.half-squares-requires
 half-squares-requires c =
     let s = c.requires in
     let t = c.loop-base.invariant in
     let more = c.loop-base-test.true in
-    record { factors = s.factors; base_le_n = (omega (arith, turn_below t more), turn_z_size t, omega (arith, turn_room t more, turn_list_size t, s.z_len.1)) }
+    record { factors = s.factors; in_bounds = (omega (arith, turn_below t more), turn_z_size t, omega (arith, turn_room t more, turn_list_size t, s.in_bounds.1)) }
 
 pub overflow_add-squares : goal.overflow_add-squares
 overflow_add-squares c =
@@ -37,7 +37,7 @@ loop-base-preserved c =
     turn_more c.loop-base.invariant c.loop-base-test.true made.value made.z_after made.list_after
 
 pub shape_of-z : goal.shape_of-z
-shape_of-z c = turn_z_size c.loop-base.invariant ∙ sym c.requires.z_len.0
+shape_of-z c = turn_z_size c.loop-base.invariant ∙ sym c.requires.in_bounds.0
 
 pub shape_of-list : goal.shape_of-list
 shape_of-list c = turn_list_size c.loop-base.invariant

@@ -41,13 +41,13 @@ attempt-accepted-requires c =
     let r = c.loop-t.invariant in
     let b = inside (goal.at.attempt-accepted-requires c).In-loop-t in record {
       tables = s.tables;
-      t_bound = (
-        omega (arith, b.0, s.degree_bound.1),
-        omega (arith, b.0, s.degree_bound.2),
-        omega (arith, b.1, r.same_y, s.degree_bound.3),
-        omega (arith, b.1, s.degree_bound.0),
-        omega (arith, b.0, r.here, same_list (goal.at.attempt-accepted-requires c).At-loop-t, s.degree_bound.4),
-        omega (arith, b.0, r.here, s.degree_bound.1),
+      in_bounds = (
+        omega (arith, b.0, s.in_bounds.1),
+        omega (arith, b.0, s.in_bounds.2),
+        omega (arith, b.1, r.same_y, s.in_bounds.3),
+        omega (arith, b.1, s.in_bounds.0),
+        omega (arith, b.0, r.here, same_list (goal.at.attempt-accepted-requires c).At-loop-t, s.in_bounds.4),
+        omega (arith, b.0, r.here, s.in_bounds.1),
       );
     }
 
@@ -56,7 +56,7 @@ overflow_cast-k c = tt
 
 pub overflow_add-k : goal.overflow_add-k
 overflow_add-k c =
-    omega (arith, bit_le c.attempt-accepted.result, (inside (goal.at.overflow_add-k c).In-loop-t).1, c.requires.degree_bound.0)
+    omega (arith, bit_le c.attempt-accepted.result, (inside (goal.at.overflow_add-k c).In-loop-t).1, c.requires.in_bounds.0)
 
 pub loop-t-smaller : goal.loop-t-smaller
 loop-t-smaller c = omega (arith, (inside (goal.at.loop-t-smaller c).In-loop-t).0)
@@ -64,7 +64,7 @@ loop-t-smaller c = omega (arith, (inside (goal.at.loop-t-smaller c).In-loop-t).0
 pub loop-t-preserved : goal.loop-t-preserved
 loop-t-preserved c =
     let here = (goal.at.loop-t-preserved c).In-loop-t in
-    let y : 2 * c.args.degree ≤ length c.args.y.now = omega (arith, c.requires.degree_bound.3) in
+    let y : 2 * c.args.degree ≤ length c.args.y.now = omega (arith, c.requires.in_bounds.3) in
     let made = c.attempt-accepted.ensures in
     turn_more c.loop-t.invariant (inside here).0 (inside here).1 y made.value made.y_after made.list_after
 
@@ -80,7 +80,7 @@ returns-then-k-want c =
     spent c.args.degree c.args.cdt.now c.args.words.now c.args.list.now
     c.note.ensures
     (turn_end r c.loop-t-test.false c.note-2.ensures)
-    (r.same_y ∙ c.requires.degree_bound.3) c.if-k-want.true c.zero_all.ensures
+    (r.same_y ∙ c.requires.in_bounds.3) c.if-k-want.true c.zero_all.ensures
 
 pub returns-else-k-want : goal.returns-else-k-want
 unfolding draw_bits
@@ -89,4 +89,4 @@ returns-else-k-want c =
     full c.args.degree c.args.cdt.now c.args.words.now c.args.list.now
     c.note.ensures
     (turn_end r c.loop-t-test.false c.note-2.ensures)
-    (r.same_y ∙ c.requires.degree_bound.3) c.if-k-want.false
+    (r.same_y ∙ c.requires.in_bounds.3) c.if-k-want.false
