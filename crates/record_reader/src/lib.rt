@@ -7,8 +7,8 @@ ghost use Rattle.std.proofs.lemmas.List.Edits.{sets};
 ghost use Rattle.bits.specs.Bits.{bit_at};
 ghost use Rattle.bits.specs.Items.{items_at, behind, each_at, items_of};
 ghost use Rattle.challenge.specs.Challenge.{is_challenge};
-ghost use Rattle.record.specs.Reading.{with_sign, value_at, next_value, is_value, positions_at, challenge_at, has_challenge, count_if, z1_start};
-ghost use Rattle.record.specs.Reading.{fields_of, fields_end, are_fields, is_record};
+ghost use Rattle.record.specs.Reading.{with_sign, value_at, next_value, is_value, positions_at, challenge_at, has_challenge, count_if};
+ghost use Rattle.record.specs.Reading.{z1_start, fields_of, fields_end, are_fields, is_record};
 ghost use Rattle.record_reader.specs.Call.{contents_of, no_contents, have_room, after_read, read_left};
 
 // What stands in bytes as a value of z: the value, whether it may stand in a record, and then the place behind it.

@@ -1,7 +1,5 @@
 -- `record_reader::challenge_passes` meets its contract. Assumes nothing.
-use borrow.Author.Rules.{rules}
 use mathlib.Core.Path.{sym, ◌∙◌}
-use borrow.Author.Tests.{not-true, not-false}
 use Rattle.record_reader.proofs.challenge_passes.Goals as goal
 
 pub returns-then-not-bit_at : goal.returns-then-not-bit_at

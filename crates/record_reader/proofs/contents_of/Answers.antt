@@ -1,5 +1,4 @@
 -- `record_reader::contents_of` meets its contract. Assumes nothing.
-use borrow.Author.Rules.{rules}
 use native.Mathlib.Omega.{arith}
 use mathlib.Core.Path.{ap, ap₂, ◌∙◌}
 use mathlib.Core.Bool.{Bool}
@@ -8,10 +7,6 @@ use Rattle.bits.proofs.Numbers.{number_below}
 use Rattle.record.specs.Reading.{count_if}
 use Rattle.record_reader.proofs.Fields.{contents_are}
 use Rattle.record_reader.proofs.contents_of.Goals as goal
-
--- ** The states, from the last to the first
-
--- ** The needs
 
 pub overflow_cast-map : goal.overflow_cast-map
 overflow_cast-map c =

@@ -1,5 +1,4 @@
 -- `record_reader::get_fields` meets its contract. Assumes nothing.
-use borrow.Author.Rules.{rules}
 use native.Mathlib.Omega.{arith}
 use mathlib.Core.Path.{◌≡◌, ap, ap₂, ◌∙◌}
 use Prim.Native.Nat.{ℕ, ◌≤◌}
@@ -13,9 +12,7 @@ use Rattle.record_reader.proofs.ReadLaws.{Most, most, fits, positions_read, z1_r
 use Rattle.record_reader.proofs.get_fields.Goals as goal
 use Rattle.record_reader.proofs.get_fields.Goals.{After-get_values-next, Start}
 
--- ** The states: behind the positions and behind z1, and the start
-
--- ** What is known there
+-- ** What is known at the start, and behind z1
 
 small : (c : Start) → Most (bit_at c.args.bytes.now)
 small c = most (bit_at c.args.bytes.now) c.requires.bytes_value.0
@@ -41,15 +38,21 @@ get_positions-requires c =
 pub get_values-next-requires : goal.get_values-next-requires
 get_values-next-requires c =
     let here = (goal.at.get_values-next-requires c).Start in
-    let t = bit_at c.args.bytes.now in record { at_bound = (omega (arith, c.z1_start.ensures.1), omega (arith, ap (λ (k : Contents). k.z1) c.requires.bytes_value.1, (small here).z1), (room here).1); count_value = ap₂ (λ (i : ℕ) (k : Contents). each_at (is_value t) (next_value t) i k.z1) c.z1_start.ensures.0 c.requires.bytes_value.1
-          ∙ (are_values t c.requires.bytes_value.0).0 }
+    let t = bit_at c.args.bytes.now in record {
+      at_bound = (omega (arith, c.z1_start.ensures.1), omega (arith, ap (λ (k : Contents). k.z1) c.requires.bytes_value.1, (small here).z1), (room here).1);
+      count_value = ap₂ (λ (i : ℕ) (k : Contents). each_at (is_value t) (next_value t) i k.z1) c.z1_start.ensures.0 c.requires.bytes_value.1
+          ∙ (are_values t c.requires.bytes_value.0).0;
+    }
 
 pub get_values-requires : goal.get_values-requires
 get_values-requires c =
     let place = (goal.at.get_values-requires c).Start in
     let here = (goal.at.get_values-requires c).After-get_values-next in
-    let t = bit_at c.args.bytes.now in record { at_bound = (omega (arith, next_is here, (small place).z2_start_lem), omega (arith, ap (λ (k : Contents). k.z2) c.requires.bytes_value.1, (small place).z2), (room place).2); count_value = ap₂ (λ (i : ℕ) (k : Contents). each_at (is_value t) (next_value t) i k.z2) (next_is here) c.requires.bytes_value.1
-          ∙ (are_values t c.requires.bytes_value.0).1 }
+    let t = bit_at c.args.bytes.now in record {
+      at_bound = (omega (arith, next_is here, (small place).z2_start_lem), omega (arith, ap (λ (k : Contents). k.z2) c.requires.bytes_value.1, (small place).z2), (room place).2);
+      count_value = ap₂ (λ (i : ℕ) (k : Contents). each_at (is_value t) (next_value t) i k.z2) (next_is here) c.requires.bytes_value.1
+          ∙ (are_values t c.requires.bytes_value.0).1;
+    }
 
 pub returns : goal.returns
 returns c =

@@ -1,18 +1,13 @@
 -- `record_reader::get_positions` meets its contract: each turn leaves the positions that follow to be written. Assumes nothing.
-use borrow.Author.Rules.{rules}
 use native.Mathlib.Omega.{arith}
-use mathlib.Core.Path.{◌≡◌, sym, subst}
-use Prim.Native.Nat.{ℕ, ◌+◌, ◌-◌, ◌*◌, ◌≤◌, ◌<◌}
+use mathlib.Core.Path.{sym, subst}
+use Prim.Native.Nat.{ℕ, ◌+◌, ◌<◌}
 use lib.ListN.{set}
 use Rattle.bits.specs.Bits.{number, bit_at}
 use Rattle.bits.proofs.Numbers.{number_below}
 use Rattle.bits.proofs.Walking.{Written, write_start, write_step, write_end}
 use Rattle.record.specs.Reading.{positions_at}
 use Rattle.record_reader.proofs.get_positions.Goals as goal
-
--- ** The states: the head of the loop, from behind the number, and the start
-
--- ** The needs
 
 pub loop-i-init : goal.loop-i-init
 loop-i-init c = (omega arith, omega arith, write_start _ _ _ _ _)

@@ -1,12 +1,7 @@
-use borrow.Author.Rules.{rules}
-use native.Mathlib.Omega.{arith}
-use mathlib.Core.Path.{◌≡◌, sym, subst}
-use Prim.Native.Nat.{ℕ, ◌+◌, ◌-◌, ◌*◌, ◌≤◌, ◌<◌}
-use lib.ListN.{set}
+use mathlib.Core.Path.{◌≡◌}
+use Prim.Native.Nat.{ℕ, ◌+◌, ◌-◌, ◌*◌, ◌≤◌}
 use Rattle.bits.specs.Bits.{number, bit_at}
-use Rattle.bits.proofs.Numbers.{number_below}
-use Rattle.bits.proofs.Walking.{Written, write_start, write_step, write_end}
-use Rattle.record.specs.Reading.{positions_at}
+use Rattle.bits.proofs.Walking.{Written}
 use Rattle.record_reader.proofs.get_positions.Given as goal
 
 abbrev pub invariant-loop-i : goal.invariant-loop-i

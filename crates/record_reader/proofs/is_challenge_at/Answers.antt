@@ -1,5 +1,4 @@
 -- `record_reader::is_challenge_at` meets its contract: more than 64 positions are no challenge, and the others stand in an array. Assumes nothing.
-use borrow.Author.Rules.{rules}
 use native.Mathlib.Omega.{arith}
 use mathlib.Core.Path.{◌≡◌, sym, ap, ◌∙◌}
 use mathlib.Core.Bool.{Bool, false, and-false}
@@ -15,7 +14,6 @@ use Rattle.lists.proofs.AtTheStart.{take_written}
 use Rattle.challenge.specs.Challenge.{is_challenge, are_positions}
 use Rattle.record.specs.Reading.{positions_at, challenge_at}
 use Rattle.record_reader.proofs.is_challenge_at.Goals as goal
-use Rattle.record_reader.proofs.is_challenge_at.Goals.{After-positions-3-1}
 
 too_many : (n : ℕ) (challenge : List ℕ) → 64 < length challenge → is_challenge n challenge ≡ false
 unfolding is_challenge are_positions
@@ -32,14 +30,6 @@ taken s count h =
     ap (λ (k : ℕ). take k (sets (replicate 64 0) 0 (positions_at s 32 count))) (sym e)
     ∙ take_written (replicate 64 0) (positions_at s 32 count) (omega (arith, e))
 
--- ** The states: behind the positions, behind the count, and the start
-
-held : (c : After-positions-3-1) → c.number_at-count.result ≤ length c.get_positions.new.challenge
-held c =
-    let s = bit_at c.args.bytes.now in
-    let e = ap length c.get_positions.ensures ∙ length-sets (replicate 64 0) 0 (positions_at s 32 c.number_at-count.result) in
-    rw e (omega arith)
-
 -- ** The needs
 
 pub returns-then-count-gt-MOST_POSITIONS : goal.returns-then-count-gt-MOST_POSITIONS
@@ -49,7 +39,11 @@ returns-then-count-gt-MOST_POSITIONS c =
     sym (too_many a.n (challenge_at s 24) (omega (arith, length_positions s 32 (number s 24 8), c.number_at-count.ensures)))
 
 pub slice_bounds-is_challenge-end : goal.slice_bounds-is_challenge-end
-slice_bounds-is_challenge-end c = sym (length-take-le _ _ (held (goal.at.slice_bounds-is_challenge-end c).After-positions-3-1))
+slice_bounds-is_challenge-end c =
+    let count = c.number_at-count.result in
+    -- the array keeps its length
+    let long = ap length c.get_positions.ensures ∙ length-sets (replicate 64 0) 0 (positions_at (bit_at c.args.bytes.now) 32 count) in
+    sym (length-take-le _ _ (rw long (omega arith)))
 
 pub returns : goal.returns
 returns c =

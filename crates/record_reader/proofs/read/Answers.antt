@@ -1,5 +1,4 @@
 -- `record_reader::read` meets its contract: bytes that are no record, too little room, or the fields. Assumes nothing.
-use borrow.Author.Rules.{rules}
 use mathlib.Core.Path.{◌≡◌, sym, ap, ◌∙◌}
 use mathlib.Core.Bool.{true}
 use borrow.Author.Tests.{not-true, not-false}
@@ -13,9 +12,7 @@ use Rattle.record_reader.proofs.ReadLaws.{no_room, left_15, left_14, left_served
 use Rattle.record_reader.proofs.read.Goals as goal
 use Rattle.record_reader.proofs.read.Goals.{Else-challenge-contents, Else-not-is_record}
 
--- ** The states: behind the test of the bytes, from behind the contents, and the start
-
--- ** What is known there
+-- ** What is known behind the tests
 
 is_record_lem : (c : Else-not-is_record) → is_record c.args.bytes.now ≡ true
 is_record_lem c = holds c.is_record.ensures c.if-not-is_record.false

@@ -1,20 +1,14 @@
 -- `record_reader::values_at` meets its contract: each turn leaves the values that follow to be tested. Assumes nothing.
 use borrow.Author.Tests.{not-true, not-false}
-use borrow.Author.Rules.{rules}
 use native.Mathlib.Omega.{arith}
 use mathlib.Core.Path.{◌∙◌}
 use mathlib.Core.Bool.{false≢true}
-use Prim.Native.Nat.{◌+◌, ◌-◌, ◌*◌, ◌≤◌, ◌<◌}
+use Prim.Native.Nat.{◌<◌}
 use Rattle.bits.specs.Bits.{bit_at}
-use Rattle.bits.proofs.Walking.{Walked, Passed, walk_start, walk_step, walk_end, pass_start, pass_step, pass_fails, pass_end}
+use Rattle.bits.proofs.Walking.{walk_start, walk_step, walk_end, pass_start, pass_step, pass_fails, pass_end}
 use Rattle.checks.proofs.JoinedTests.{holds, fails}
-use Rattle.record.specs.Reading.{next_value, is_value}
 use Rattle.record.proofs.Forms.{next_most}
 use Rattle.record_reader.proofs.values_at.Goals as goal
-
--- ** The states: the head of the loop, from behind the value, and the start
-
--- ** The needs
 
 pub loop-i-init : goal.loop-i-init
 loop-i-init c = (omega arith, walk_start _ _ _, pass_start _ _ _ _)

@@ -1,13 +1,7 @@
-use borrow.Author.Rules.{rules}
-use native.Mathlib.Omega.{arith}
-use mathlib.Core.Path.{◌∙◌}
-use mathlib.Core.Bool.{false≢true}
-use Prim.Native.Nat.{◌+◌, ◌-◌, ◌*◌, ◌≤◌, ◌<◌}
+use Prim.Native.Nat.{◌+◌, ◌-◌, ◌*◌, ◌≤◌}
 use Rattle.bits.specs.Bits.{bit_at}
-use Rattle.bits.proofs.Walking.{Walked, Passed, walk_start, walk_step, walk_end, pass_start, pass_step, pass_fails, pass_end}
-use Rattle.checks.proofs.JoinedTests.{holds, fails}
+use Rattle.bits.proofs.Walking.{Walked, Passed}
 use Rattle.record.specs.Reading.{next_value, is_value}
-use Rattle.record.proofs.Forms.{next_most}
 use Rattle.record_reader.proofs.values_at.Given as goal
 
 abbrev pub invariant-loop-i : goal.invariant-loop-i

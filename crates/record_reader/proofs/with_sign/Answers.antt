@@ -1,5 +1,4 @@
 -- `record_reader::with_sign` meets its contract: a number times its sign. Assumes nothing.
-use borrow.Author.Rules.{rules}
 use native.Mathlib.Omega.{arith}
 use mathlib.Core.Path.{ap, ap₂, ◌∙◌}
 use lib.IntN.{pos, ◌*ℤ◌}

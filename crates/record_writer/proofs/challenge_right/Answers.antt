@@ -1,6 +1,4 @@
 -- `record_writer::challenge_right` meets its contract. Assumes nothing.
-use borrow.Author.Rules.{rules}
-use borrow.Author.Tests.{not-true, not-false}
 use Rattle.bits.specs.Items.{given, passes}
 use Rattle.record_writer.proofs.challenge_right.Goals as goal
 

@@ -1,10 +1,9 @@
 -- `record_writer::clear` meets its contract: after i turns the first i bytes are zero, and the others stand. Assumes nothing.
-use borrow.Author.Rules.{rules}
 use native.Mathlib.Omega.{arith}
-use mathlib.Core.Path.{◌≡◌, ap, ◌∙◌}
-use mathlib.Core.List.{List, ◌++◌}
-use Prim.Native.Nat.{ℕ, ◌≤◌, ◌<◌, ◌-◌}
-use lib.ListN.{length, replicate, drop, set, length-set}
+use mathlib.Core.Path.{ap, ◌∙◌}
+use mathlib.Core.List.{List}
+use Prim.Native.Nat.{ℕ, ◌<◌}
+use lib.ListN.{length, set, length-set}
 use Rattle.lists.proofs.Filling.{fill_more, fill_all}
 use Rattle.record_writer.proofs.clear.Goals as goal
 

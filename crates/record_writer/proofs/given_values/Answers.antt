@@ -1,6 +1,4 @@
 -- `record_writer::given_values` meets its contract. Assumes nothing.
-use borrow.Author.Rules.{rules}
-use borrow.Author.Tests.{not-true, not-false}
 use Rattle.bits.specs.Items.{given, items_of}
 use Rattle.record_writer.proofs.given_values.Goals as goal
 

@@ -1,5 +1,4 @@
 -- `record_writer::length_right` meets its contract. Assumes nothing.
-use borrow.Author.Tests.{not-true, not-false}
 use Rattle.bits.specs.Items.{given, passes}
 use Rattle.record_writer.proofs.length_right.Goals as goal
 

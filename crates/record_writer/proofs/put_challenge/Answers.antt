@@ -1,9 +1,7 @@
 -- `record_writer::put_challenge` meets its contract: the count and the positions, or nothing. Assumes nothing.
-use borrow.Author.Rules.{rules}
 use native.Mathlib.Omega.{arith}
 use mathlib.Core.Path.{◌≡◌, refl, ap, ◌∙◌}
 use Prim.Native.Nat.{◌+◌, ◌*◌, ◌≤◌}
-use borrow.Author.Tests.{not-true, not-false}
 use lib.ListN.{length}
 use Rattle.bits.specs.Bits.{put_bits}
 use Rattle.bits.proofs.Putting.{length_put}
@@ -13,9 +11,7 @@ use Rattle.record_writer.proofs.WriteLaws.{challenge_put}
 use Rattle.record_writer.proofs.put_challenge.Goals as goal
 use Rattle.record_writer.proofs.put_challenge.Goals.{After-put_byte, Else-not-has}
 
--- ** The states: behind the count, behind the test, and the start
-
--- ** What is known there
+-- ** What is known behind the test, and behind the count
 
 few : (c : Else-not-has) → length c.args.challenge.now ≤ 64
 few c = c.requires.challenge_len_bound c.if-not-has.false

@@ -1,13 +1,8 @@
 -- `record_writer::put_header` meets its contract: the bit map, and n. Assumes nothing.
-use borrow.Author.Rules.{rules}
 use native.Mathlib.Omega.{arith}
 use Rattle.bits.proofs.Numbers.{bit_below}
 use Rattle.record_writer.proofs.WriteLaws.{header_put}
 use Rattle.record_writer.proofs.put_header.Goals as goal
-
--- ** The states: behind the map, and the start
-
--- ** The needs
 
 pub overflow_mul-map : goal.overflow_mul-map
 overflow_mul-map c = omega (arith, bit_below c.args.fields.z1)

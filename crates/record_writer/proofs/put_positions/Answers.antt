@@ -1,17 +1,12 @@
 -- `record_writer::put_positions` meets its contract: each turn leaves the positions that follow to be put. Assumes nothing.
-use borrow.Author.Rules.{rules}
 use native.Mathlib.Omega.{arith}
 use mathlib.Core.Path.{◌≡◌}
-use Prim.Native.Nat.{◌+◌, ◌-◌, ◌*◌, ◌<◌}
+use Prim.Native.Nat.{◌+◌, ◌*◌, ◌<◌}
 use lib.ListN.{length, get_or}
 use Rattle.bits.specs.Bits.{digits}
 use Rattle.bits.proofs.Streams.{length_digits}
-use Rattle.bits.proofs.Putting.{Putting, putting_start, putting_step, putting_end}
+use Rattle.bits.proofs.Putting.{putting_start, putting_step, putting_end}
 use Rattle.record_writer.proofs.put_positions.Goals as goal
-
--- ** The states: behind the call of a turn, the head of the loop, and the start
-
--- ** The needs
 
 pub loop-i-init : goal.loop-i-init
 loop-i-init c =

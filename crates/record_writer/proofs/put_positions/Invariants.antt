@@ -1,11 +1,7 @@
-use borrow.Author.Rules.{rules}
-use native.Mathlib.Omega.{arith}
-use mathlib.Core.Path.{◌≡◌}
-use Prim.Native.Nat.{◌+◌, ◌-◌, ◌*◌, ◌<◌}
-use lib.ListN.{length, get_or}
+use Prim.Native.Nat.{◌+◌, ◌-◌, ◌*◌}
+use lib.ListN.{length}
 use Rattle.bits.specs.Bits.{digits}
-use Rattle.bits.proofs.Streams.{length_digits}
-use Rattle.bits.proofs.Putting.{Putting, putting_start, putting_step, putting_end}
+use Rattle.bits.proofs.Putting.{Putting}
 use Rattle.record_writer.proofs.put_positions.Given as goal
 
 abbrev pub invariant-loop-i : goal.invariant-loop-i

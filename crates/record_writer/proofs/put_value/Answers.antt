@@ -1,7 +1,6 @@
 -- `record_writer::put_value` meets its contract: the sign and the low bits, then the zeros and the one. Assumes nothing.
-use borrow.Author.Rules.{rules}
 use native.Mathlib.Omega.{arith}
-use mathlib.Core.Path.{◌≡◌, ap, ◌∙◌}
+use mathlib.Core.Path.{◌≡◌, ap, ap₂, ◌∙◌}
 use mathlib.Core.Bool.{Bool, true, false}
 use mathlib.Core.List.{[], ◌∷◌, ◌++◌}
 use Prim.Native.Nat.{ℕ, ◌+◌, ◌*◌, ◌/◌, ◌%◌}
@@ -20,39 +19,16 @@ use Rattle.record.proofs.FieldSets.{length_value}
 use Rattle.record.proofs.Lengths.{packed_value}
 use Rattle.record_writer.proofs.WriteLaws.{below_zero, value_put}
 use Rattle.record_writer.proofs.put_value.Goals as goal
-use Rattle.record_writer.proofs.put_value.Lts as lts
-use Rattle.record_writer.proofs.put_value.Reads as reads
-use Rattle.record_writer.proofs.put_value.Tie as tie
+use Rattle.record_writer.proofs.put_value.Goals.{After-size_of-size}
 
--- ** The places of the code at which the lemmas below stand
-
-abbrev After-size_of-size : Type 0
-After-size_of-size = lts.After-size_of tie.the-claims reads.Pre reads.Post
-
-abbrev After-put_eight : Type 0
-After-put_eight = lts.After-put_eight tie.the-claims reads.Pre reads.Post
-
--- ** The states: behind the last call, behind the first eight bits, behind the size; and the start
-
--- ** What is known there
+-- ** What is known behind the size
 
 size : (c : After-size_of-size) → c.size_of-size.result ≡ nat_abs c.args.value
 size c = c.size_of-size.ensures ∙ ap nat_abs (read_back c.ranges.value)
 
 -- the sign, as it is tested
-minus : (c : After-size_of-size) → lt_z c.args.value (pos 0) ≡ negative c.args.value
-minus c = below_zero c.args.value
-
-first : (c : After-put_eight) → let a = c.args in
-    c.put_eight.new.page ≡ put_bits a.page.now a.at (digits 8 (128 * bool_byte (negative a.value) + nat_abs a.value % 128))
-first c =
-    c.put_eight.ensures
-    ∙ ap (λ (b : Bool). put_bits c.args.page.now c.args.at (digits 8 (128 * bool_byte b + c.size_of-size.result % 128))) (ap (λ (z : ℤ). lt_z z (pos 0)) (read_back c.ranges.value) ∙ minus c.before.before)
-    ∙ ap (λ (x : ℕ). put_bits c.args.page.now c.args.at (digits 8 (128 * bool_byte (negative c.args.value) + x % 128))) (size c.before.before)
-
--- the page keeps its length
-long : (c : After-put_eight) → length c.put_eight.new.page ≡ length c.args.page.now
-long c = ap length c.put_eight.ensures ∙ length_put _ _ _
+minus : (c : After-size_of-size) → lt_z (to_z w32 (of_z w32 c.args.value)) (pos 0) ≡ negative c.args.value
+minus c = ap (λ (z : ℤ). lt_z z (pos 0)) (read_back c.ranges.value) ∙ below_zero c.args.value
 
 -- ** The needs
 
@@ -68,16 +44,23 @@ put_eight-requires c =
     (omega (arith, sign), omega (arith, c.requires.2, length_value c.args.value))
 
 pub put_one-requires : goal.put_one-requires
-put_one-requires c = (
+put_one-requires c =
+    let size_is = size (goal.at.put_one-requires c).After-size_of-size in
+    -- the page keeps its length
+    let long = ap length c.put_eight.ensures ∙ length_put _ _ _ in (
       omega (arith, c.requires),
-      omega (arith, size c.before.before.before.before.before, c.requires.0),
-      omega (arith, size c.before.before.before.before.before, c.requires.2, length_value c.args.value, long c.before.before.before),
+      omega (arith, size_is, c.requires.0),
+      omega (arith, size_is, c.requires.2, length_value c.args.value, long),
     )
 
 pub returns : goal.returns
 returns c =
-    let a = c.args in (
-      ap (a.at +◌) (c.packed_length.ensures ∙ ap packed_length (size c.before.before.before.before.before.before.before.before.before.before) ∙ packed_value a.value c.requires.0),
-      value_put a.page.now a.at a.value (first c.before.before.before.before.before.before.before.before)
-          (c.put_one.ensures ∙ ap (λ (x : ℕ). put_bits c.put_eight.new.page (a.at + 8) (replicate (x / 128) false ++ (true ∷ []))) (size c.before.before.before.before.before.before.before.before.before.before)),
+    let a = c.args in
+    let here = (goal.at.returns c).After-size_of-size in
+    let size_is = size here in
+    let first = c.put_eight.ensures
+    ∙ ap₂ (λ (b : Bool) (x : ℕ). put_bits a.page.now a.at (digits 8 (128 * bool_byte b + x % 128))) (minus here) size_is in (
+      ap (a.at +◌) (c.packed_length.ensures ∙ ap packed_length size_is ∙ packed_value a.value c.requires.0),
+      value_put a.page.now a.at a.value first
+          (c.put_one.ensures ∙ ap (λ (x : ℕ). put_bits c.put_eight.new.page (a.at + 8) (replicate (x / 128) false ++ (true ∷ []))) size_is),
     )

@@ -1,17 +1,14 @@
 -- `record_writer::put_values` meets its contract: each turn leaves the values that follow to be put. Assumes nothing.
-use borrow.Author.Rules.{rules}
 use native.Mathlib.Omega.{arith}
-use Prim.Native.Nat.{◌+◌, ◌-◌, ◌*◌, ◌≤◌, ◌<◌}
+use Prim.Native.Nat.{◌≤◌, ◌<◌}
 use lib.IntN.{ℤ, pos, nat_abs}
 use lib.ListN.{length, get_or}
-use Rattle.bits.proofs.Putting.{Putting, putting_start, putting_step, putting_end, forms_length}
+use Rattle.bits.proofs.Putting.{putting_start, putting_step, putting_end, forms_length}
 use Rattle.record.specs.Record.{value_limit, value_bits}
 use Rattle.record.proofs.FieldSets.{length_value}
 use Rattle.record_writer.proofs.WriteLaws.{value_small, value_read}
 use Rattle.record_writer.proofs.put_values.Goals as goal
 use Rattle.record_writer.proofs.put_values.Goals.{At-loop-i}
-
--- ** The states: behind the call of a turn, the head of the loop, and the start
 
 -- ** The value of a turn
 

@@ -1,12 +1,7 @@
-use borrow.Author.Rules.{rules}
-use native.Mathlib.Omega.{arith}
-use Prim.Native.Nat.{◌+◌, ◌-◌, ◌*◌, ◌≤◌, ◌<◌}
-use lib.IntN.{ℤ, pos, nat_abs}
-use lib.ListN.{length, get_or}
-use Rattle.bits.proofs.Putting.{Putting, putting_start, putting_step, putting_end, forms_length}
-use Rattle.record.specs.Record.{value_limit, value_bits}
-use Rattle.record.proofs.FieldSets.{length_value}
-use Rattle.record_writer.proofs.WriteLaws.{value_small, value_read}
+use Prim.Native.Nat.{◌+◌, ◌-◌, ◌*◌, ◌≤◌}
+use lib.ListN.{length}
+use Rattle.bits.proofs.Putting.{Putting}
+use Rattle.record.specs.Record.{value_bits}
 use Rattle.record_writer.proofs.put_values.Given as goal
 
 abbrev pub invariant-loop-i : goal.invariant-loop-i

@@ -1,15 +1,9 @@
-use borrow.Author.Rules.{rules}
-use native.Mathlib.Omega.{arith}
-use mathlib.Core.Path.{◌≡◌, ap, ◌∙◌}
-use Prim.Native.Nat.{◌+◌, ◌-◌, ◌*◌, ◌≤◌, ◌<◌}
-use lib.IntN.{ℤ, pos, nat_abs}
-use lib.ListN.{length, get_or}
+use mathlib.Core.Path.{◌≡◌}
+use Prim.Native.Nat.{◌+◌, ◌-◌, ◌*◌, ◌≤◌}
+use lib.ListN.{length}
 use Rattle.bits.specs.Items.{joined}
-use Rattle.bits.proofs.Putting.{forms_from, forms_length, no_forms_left}
-use Rattle.record.specs.Record.{value_limit, value_bits}
-use Rattle.record.specs.Lengths.{packed_length}
-use Rattle.record.proofs.Lengths.{packed_value}
-use Rattle.record_writer.proofs.WriteLaws.{value_small, value_read}
+use Rattle.bits.proofs.Putting.{forms_from}
+use Rattle.record.specs.Record.{value_bits}
 use Rattle.record_writer.proofs.values_length.Given as goal
 
 abbrev pub invariant-loop-i : goal.invariant-loop-i
