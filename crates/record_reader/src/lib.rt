@@ -30,9 +30,9 @@ fn with_sign(minus: bool, size: u32) -> i32
 // The value of z that stands in bytes at a place: its longest form is one number, of a sign bit, seven low bits and 26 more.
 fn value_at(bytes: &[u8], at: usize) -> Value
     requires { at < 2 ^ 20 }
-    ensures value_value { (result.value ≡ value_at (bit_at bytes.now) at)
+    ensures value { (result.value ≡ value_at (bit_at bytes.now) at)
         × (result.right ≡ is_value (bit_at bytes.now) at) }
-    ensures next_value { result.right ≡ true → result.next ≡ next_value (bit_at bytes.now) at }
+    ensures next { result.right ≡ true → result.next ≡ next_value (bit_at bytes.now) at }
 {
     let form = bits::number_at(bytes, at, 34);
     let minus = form >> 33 == 1;
@@ -56,8 +56,8 @@ struct Found {
 // Whether so many values of z stand in bytes from a place on, and then the place behind them.
 fn values_at(bytes: &[u8], at: usize, count: usize) -> Found
     requires { (at < 2 ^ 18) × (count ≤ 1024) }
-    ensures right_value { result.right ≡ each_at (is_value (bit_at bytes.now)) (next_value (bit_at bytes.now)) at count }
-    ensures end_value { result.right ≡ true → result.end ≡ behind (next_value (bit_at bytes.now)) at count }
+    ensures right { result.right ≡ each_at (is_value (bit_at bytes.now)) (next_value (bit_at bytes.now)) at count }
+    ensures end { result.right ≡ true → result.end ≡ behind (next_value (bit_at bytes.now)) at count }
 {
     let mut place = at;
     let mut i: usize = 0;
@@ -81,8 +81,8 @@ fn values_at(bytes: &[u8], at: usize, count: usize) -> Found
 // Writes so many values of z, which stand in bytes from a place on, to the start of an output, the rest of which is unchanged. Gives the
 // place behind them.
 fn get_values(bytes: &[u8], at: usize, count: usize, z: &mut [i32]) -> usize
-    requires at_bound { (at < 2 ^ 18) × (count ≤ 1024) × (count ≤ length z.old) }
-    requires count_value { each_at (is_value (bit_at bytes.now)) (next_value (bit_at bytes.now)) at count ≡ true }
+    requires in_bounds { (at < 2 ^ 18) × (count ≤ 1024) × (count ≤ length z.old) }
+    requires right { each_at (is_value (bit_at bytes.now)) (next_value (bit_at bytes.now)) at count ≡ true }
     ensures value { result ≡ behind (next_value (bit_at bytes.now)) at count }
     ensures z_after { z.new ≡ sets z.old 0
         (items_at (value_at (bit_at bytes.now)) (next_value (bit_at bytes.now)) at count) }
@@ -160,8 +160,8 @@ fn z1_start(bytes: &[u8]) -> usize
 
 // Whether what stands in bytes as fields are fields, and then where they end.
 fn are_fields(bytes: &[u8]) -> Found
-    ensures right_value { result.right ≡ are_fields (bit_at bytes.now) }
-    ensures end_value { result.right ≡ true → result.end ≡ fields_end (bit_at bytes.now) }
+    ensures right { result.right ≡ are_fields (bit_at bytes.now) }
+    ensures end { result.right ≡ true → result.end ≡ fields_end (bit_at bytes.now) }
 {
     let n = bits::number_at(bytes, 8, 16) as usize;
     if !checks::is_degree(n) {
@@ -253,8 +253,8 @@ fn get_fields(
     z1: &mut [i32],
     z2: &mut [i32],
 )
-    requires bytes_value { (are_fields (bit_at bytes.now) ≡ true) × (contents ≡ contents_of (fields_of (bit_at bytes.now))) }
-    requires z2_value { have_room contents (length challenge.old) (length z1.old) (length z2.old) ≡ true }
+    requires right { (are_fields (bit_at bytes.now) ≡ true) × (contents ≡ contents_of (fields_of (bit_at bytes.now))) }
+    requires room { have_room contents (length challenge.old) (length z1.old) (length z2.old) ≡ true }
     ensures challenge_after { challenge.new
         ≡ sets challenge.old 0 (items_of (fields_of (bit_at bytes.now)).challenge) }
     ensures z1_after { z1.new ≡ sets z1.old 0 (items_of (fields_of (bit_at bytes.now)).z1) }

@@ -65,8 +65,8 @@ fn put_value(page: &mut [u8], at: usize, value: i32) -> usize
 
 // Puts values into bytes from a place on. Gives the place behind them.
 fn put_values(page: &mut [u8], at: usize, values: &[i32]) -> usize
-    requires values_value { (are_small values.now ≡ true) × (length values.now ≤ 1024) }
-    requires at_bound { (at < 2 ^ 18) × (at + length (joined value_bits values.now) ≤ 8 * length page.old) }
+    requires small { (are_small values.now ≡ true) × (length values.now ≤ 1024) }
+    requires in_bounds { (at < 2 ^ 18) × (at + length (joined value_bits values.now) ≤ 8 * length page.old) }
     ensures { (result ≡ at + length (joined value_bits values.now))
         × (page.new ≡ put_bits page.old at (joined value_bits values.now)) }
 {
@@ -93,8 +93,8 @@ fn put_positions(page: &mut [u8], k: usize, challenge: &[u32])
 
 // Puts a challenge, if it is given, into bytes from byte 3 on. Gives the place behind it.
 fn put_challenge(page: &mut [u8], has: bool, challenge: &[u32]) -> usize
-    requires challenge_len_bound { has ≡ true → length challenge.now ≤ 64 }
-    requires challenge_bound { 24 + length (form_if challenge_bits (given has challenge.now)) ≤ 8 * length page.old }
+    requires few { has ≡ true → length challenge.now ≤ 64 }
+    requires in_bounds { 24 + length (form_if challenge_bits (given has challenge.now)) ≤ 8 * length page.old }
     ensures { (result ≡ 24 + length (form_if challenge_bits (given has challenge.now)))
         × (page.new ≡ put_bits page.old 24 (form_if challenge_bits (given has challenge.now))) }
 {
@@ -128,8 +128,8 @@ fn put_header(page: &mut [u8], n: usize, fields: Fields)
 
 // Puts the fields that are told into bytes.
 fn put_fields(page: &mut [u8], n: usize, fields: Fields, challenge: &[u32], z1: &[i32], z2: &[i32])
-    requires z2_value { is_field_set (told n fields challenge.now z1.now z2.now) ≡ true }
-    requires z2_len_bound { length (field_bits (told n fields challenge.now z1.now z2.now)) ≤ 8 * length page.old }
+    requires field_set { is_field_set (told n fields challenge.now z1.now z2.now) ≡ true }
+    requires in_bounds { length (field_bits (told n fields challenge.now z1.now z2.now)) ≤ 8 * length page.old }
     ensures { page.new
         ≡ put_bits page.old 0 (field_bits (told n fields challenge.now z1.now z2.now)) }
 {
@@ -174,8 +174,8 @@ fn clear(page: &mut [u8])
 
 // Writes the record of the fields that are told over bytes of its length.
 fn write_over(page: &mut [u8], n: usize, fields: Fields, challenge: &[u32], z1: &[i32], z2: &[i32])
-    requires z2_value { is_field_set (told n fields challenge.now z1.now z2.now) ≡ true }
-    requires page_len { length page.old ≡ length (record_of (told n fields challenge.now z1.now z2.now)) }
+    requires field_set { is_field_set (told n fields challenge.now z1.now z2.now) ≡ true }
+    requires whole { length page.old ≡ length (record_of (told n fields challenge.now z1.now z2.now)) }
     ensures { page.new ≡ record_of (told n fields challenge.now z1.now z2.now) }
 {
     clear(page);

@@ -37,21 +37,21 @@ few c =
     omega (arith, c.count_if.ensures, count_most c.bit_at.result n, degree_range n (before_z1 c).is_degree_lem)
 
 behind_z1 : (c : Else-not-z1) → c.values_at-z1.result.end ≡ behind (next_value (bit_at c.args.bytes.now)) c.z1_start.result c.count_if.result
-behind_z1 c = c.values_at-z1.ensures.end_value (not-false _ c.if-not-z1.false)
+behind_z1 c = c.values_at-z1.ensures.end (not-false _ c.if-not-z1.false)
 
 -- ** The needs
 
 pub returns-then-not-is_degree : goal.returns-then-not-is_degree
 unfolding are_fields
 returns-then-not-is_degree c =
-    record { right_value = sym (rw (sym c.number_at-n.ensures, fails c.is_degree.ensures c.if-not-is_degree.true)); end_value = λ h. absurd (false≢true h) }
+    record { right = sym (rw (sym c.number_at-n.ensures, fails c.is_degree.ensures c.if-not-is_degree.true)); end = λ h. absurd (false≢true h) }
 
 pub returns-then-not-challenge_passes : goal.returns-then-not-challenge_passes
 unfolding are_fields
 returns-then-not-challenge_passes c =
     let d = is_degree_lem (goal.at.returns-then-not-challenge_passes c).Else-not-is_degree in
     let f = fails c.challenge_passes.ensures c.if-not-challenge_passes.true in
-    record { right_value = sym (rw (sym c.number_at-n.ensures, d, f)); end_value = λ h. absurd (false≢true h) }
+    record { right = sym (rw (sym c.number_at-n.ensures, d, f)); end = λ h. absurd (false≢true h) }
 
 pub values_at-z1-requires : goal.values_at-z1-requires
 values_at-z1-requires c = (omega (arith, c.z1_start.ensures.1), few (goal.at.values_at-z1-requires c).After-count_if)
@@ -59,8 +59,8 @@ values_at-z1-requires c = (omega (arith, c.z1_start.ensures.1), few (goal.at.val
 pub returns-then-not-z1 : goal.returns-then-not-z1
 returns-then-not-z1 c =
     let f = not-true _ c.if-not-z1.true in
-    let w = z1_fails _ (before_z1 (goal.at.returns-then-not-z1 c).After-count_if) (sym c.values_at-z1.ensures.right_value ∙ f) in
-    record { right_value = f ∙ sym w; end_value = λ h. absurd (false≢true (sym f ∙ h)) }
+    let w = z1_fails _ (before_z1 (goal.at.returns-then-not-z1 c).After-count_if) (sym c.values_at-z1.ensures.right ∙ f) in
+    record { right = f ∙ sym w; end = λ h. absurd (false≢true (sym f ∙ h)) }
 
 pub values_at-requires : goal.values_at-requires
 values_at-requires c =
@@ -82,5 +82,5 @@ returns c =
       behind_z1 = behind_z1 here.Else-not-z1;
       more_is = c.count_if-2.ensures ∙ ap (λ (b : Bool). count_if b n) c.bit_at-2.ensures;
     } in
-    let t = sym c.values_at-z1.ensures.right_value ∙ not-false _ c.if-not-z1.false in
-    record { right_value = c.values_at.ensures.right_value ∙ by_z2 s b m t; end_value = λ h. c.values_at.ensures.end_value h ∙ end_is s b m }
+    let t = sym c.values_at-z1.ensures.right ∙ not-false _ c.if-not-z1.false in
+    record { right = c.values_at.ensures.right ∙ by_z2 s b m t; end = λ h. c.values_at.ensures.end h ∙ end_is s b m }

@@ -19,8 +19,8 @@ loop-i-preserved c =
     let t = c.loop-i in
     let l : t.i < c.args.count = omega arith in
     let e = c.value_at-v.ensures in
-    let right = passes_next _ _ _ _ l c.requires.count_value t.invariant.2 in
-    rw (e.value_value.0, read_back (value_fits (bit_at c.args.bytes.now) t.place), e.next_value (e.value_value.1 ∙ right)) (
+    let right = passes_next _ _ _ _ l c.requires.right t.invariant.2 in
+    rw (e.value.0, read_back (value_fits (bit_at c.args.bytes.now) t.place), e.next (e.value.1 ∙ right)) (
       omega (arith, next_most (bit_at c.args.bytes.now) t.place),
       walk_step _ _ _ l t.invariant.1,
       pass_step _ _ _ _ l right t.invariant.2,

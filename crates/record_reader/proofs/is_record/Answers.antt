@@ -12,17 +12,17 @@ use Rattle.record_reader.proofs.is_record.Goals as goal
 use Rattle.record_reader.proofs.is_record.Goals.{Else-not-fields}
 
 right : (c : Else-not-fields) → are_fields (bit_at c.args.bytes.now) ≡ true
-right c = holds c.are_fields-fields.ensures.right_value (not-false _ c.if-not-fields.false)
+right c = holds c.are_fields-fields.ensures.right (not-false _ c.if-not-fields.false)
 
 end_is : (c : Else-not-fields) → c.are_fields-fields.result.end ≡ fields_end (bit_at c.args.bytes.now)
-end_is c = c.are_fields-fields.ensures.end_value (not-false _ c.if-not-fields.false)
+end_is c = c.are_fields-fields.ensures.end (not-false _ c.if-not-fields.false)
 
 end_small : (c : Else-not-fields) → fields_end (bit_at c.args.bytes.now) ≤ 75792
 end_small c = fields_end_most (bit_at c.args.bytes.now) (right c)
 
 pub returns-then-not-fields : goal.returns-then-not-fields
 unfolding is_record
-returns-then-not-fields c = sym (rw (fails c.are_fields-fields.ensures.right_value (not-true _ c.if-not-fields.true)))
+returns-then-not-fields c = sym (rw (fails c.are_fields-fields.ensures.right (not-true _ c.if-not-fields.true)))
 
 pub number_at-padding-requires : goal.number_at-padding-requires
 number_at-padding-requires c =

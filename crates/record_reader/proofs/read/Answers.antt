@@ -41,7 +41,7 @@ returns-then-challenge-contents c =
 
 pub get_fields-requires : goal.get_fields-requires
 get_fields-requires c =
-    record { bytes_value = (are_fields_lem (goal.at.get_fields-requires c).Else-not-is_record, c.contents_of-contents.ensures); z2_value = have_room_lem (goal.at.get_fields-requires c).Else-challenge-contents }
+    record { right = (are_fields_lem (goal.at.get_fields-requires c).Else-not-is_record, c.contents_of-contents.ensures); room = have_room_lem (goal.at.get_fields-requires c).Else-challenge-contents }
 
 pub returns : goal.returns
 returns c =

@@ -66,4 +66,4 @@ returns c =
     let here = (goal.at.returns c).After-number_at-form in
     let m = (found here).sign in
     let l = (found here).low in
-    let z = zeros_is here in record { value_value = (read_back {w = w32} (record { sfits = c.with_sign.type_inv }) ∙ c.with_sign.ensures ∙ rw (m, l, z), rw (m, l, z)); next_value = λ h. ap (at here +◌) (c.packed_length.ensures ∙ ap packed_length (size_is here)) ∙ packed_next (stream here) (at here) (rw (m, l, z) at h) }
+    let z = zeros_is here in record { value = (read_back {w = w32} (record { sfits = c.with_sign.type_inv }) ∙ c.with_sign.ensures ∙ rw (m, l, z), rw (m, l, z)); next = λ h. ap (at here +◌) (c.packed_length.ensures ∙ ap packed_length (size_is here)) ∙ packed_next (stream here) (at here) (rw (m, l, z) at h) }

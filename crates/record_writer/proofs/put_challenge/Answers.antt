@@ -14,11 +14,11 @@ use Rattle.record_writer.proofs.put_challenge.Goals.{After-put_byte, Else-not-ha
 -- ** What is known behind the test, and behind the count
 
 few : (c : Else-not-has) → length c.args.challenge.now ≤ 64
-few c = c.requires.challenge_len_bound c.if-not-has.false
+few c = c.requires.few c.if-not-has.false
 
 room : (c : Else-not-has) → let a = c.args in 24 + length (challenge_bits a.challenge.now) ≤ 8 * length a.page.now
 room c =
-    rw (form_given challenge_bits c.args.challenge.now c.if-not-has.false) at c.requires.challenge_bound
+    rw (form_given challenge_bits c.args.challenge.now c.if-not-has.false) at c.requires.in_bounds
 
 -- the page keeps its length
 long : (c : After-put_byte) → length c.put_byte.new.page ≡ length c.args.page.now

@@ -31,40 +31,40 @@ pub put_header-requires : goal.put_header-requires
 put_header-requires c =
     let a = c.args in
     let parts = fields_length a.n a.fields a.challenge.now a.z1.now a.z2.now in
-    ((known a.n a.fields _ _ _ c.requires.z2_value).degree, omega (arith, parts))
+    ((known a.n a.fields _ _ _ c.requires.field_set).degree, omega (arith, parts))
 
 pub put_challenge-z1_place-requires : goal.put_challenge-z1_place-requires
 put_challenge-z1_place-requires c =
     let a = c.args in
     let parts = fields_length a.n a.fields a.challenge.now a.z1.now a.z2.now in
     record {
-      challenge_len_bound = (known a.n a.fields _ _ _ c.requires.z2_value).few;
-      challenge_bound = omega (arith, parts, kept _ _ _ c.put_header.ensures);
+      few = (known a.n a.fields _ _ _ c.requires.field_set).few;
+      in_bounds = omega (arith, parts, kept _ _ _ c.put_header.ensures);
     }
 
 pub put_values-z2_place-requires : goal.put_values-z2_place-requires
 put_values-z2_place-requires c =
     let a = c.args in
     let parts = fields_length a.n a.fields a.challenge.now a.z1.now a.z2.now in
-    let k = known a.n a.fields _ _ _ c.requires.z2_value in
+    let k = known a.n a.fields _ _ _ c.requires.field_set in
     let place = c.put_challenge-z1_place.ensures.0 in
     let long = kept _ _ _ c.put_challenge-z1_place.ensures.1 ∙ kept _ _ _ c.put_header.ensures in
     rw c.given_values.ensures record {
-      values_value = (k.z1_right, k.z1_short);
-      at_bound = (omega (arith, place, k.c_most), omega (arith, place, parts, long));
+      small = (k.z1_right, k.z1_short);
+      in_bounds = (omega (arith, place, k.c_most), omega (arith, place, parts, long));
     }
 
 pub put_values-requires : goal.put_values-requires
 put_values-requires c =
     let a = c.args in
     let parts = fields_length a.n a.fields a.challenge.now a.z1.now a.z2.now in
-    let k = known a.n a.fields _ _ _ c.requires.z2_value in
+    let k = known a.n a.fields _ _ _ c.requires.field_set in
     let z1_start = c.put_challenge-z1_place.ensures.0 in
     let z1_end = behind_z1 (goal.at.put_values-requires c).After-put_values-z2_place in
     let long = kept _ _ _ c.put_values-z2_place.ensures.1 ∙ kept _ _ _ c.put_challenge-z1_place.ensures.1 ∙ kept _ _ _ c.put_header.ensures in
     rw c.given_values-2.ensures record {
-      values_value = (k.z2_right, k.z2_short);
-      at_bound = (omega (arith, z1_start, z1_end, k.c_most, k.a_most), omega (arith, z1_start, z1_end, parts, long));
+      small = (k.z2_right, k.z2_short);
+      in_bounds = (omega (arith, z1_start, z1_end, k.c_most, k.a_most), omega (arith, z1_start, z1_end, parts, long));
     }
 
 pub returns : goal.returns

@@ -17,7 +17,7 @@ module _ (c : At-loop-i) where
   value = get_or c.args.values.now c.loop-i.i (pos 0)
 
   small : nat_abs value ≤ value_limit
-  small = value_small c.args.values.now c.requires.values_value.0 c.loop-i.i
+  small = value_small c.args.values.now c.requires.small.0 c.loop-i.i
 
 -- ** The needs
 
@@ -27,10 +27,10 @@ loop-i-init c = (omega arith, putting_start value_bits _ _ _)
 pub put_value-place-requires : goal.put_value-place-requires
 put_value-place-requires c =
     let l : c.loop-i.i < length c.args.values.now = omega arith in
-    rw (value_read c.args.values.now c.requires.values_value.0 c.loop-i.i) (
+    rw (value_read c.args.values.now c.requires.small.0 c.loop-i.i) (
       small (goal.at.put_value-place-requires c).At-loop-i,
       omega (arith, c.loop-i.invariant.0, c.requires),
-      omega (arith, c.loop-i.invariant.1.ends, c.loop-i.invariant.1.long, forms_length value_bits c.args.values.now (pos 0) c.loop-i.i l, c.requires.at_bound.1),
+      omega (arith, c.loop-i.invariant.1.ends, c.loop-i.invariant.1.long, forms_length value_bits c.args.values.now (pos 0) c.loop-i.i l, c.requires.in_bounds.1),
     )
 
 pub overflow_add-i : goal.overflow_add-i
@@ -43,7 +43,7 @@ pub loop-i-preserved : goal.loop-i-preserved
 loop-i-preserved c =
     let here = (goal.at.loop-i-preserved c).At-loop-i in
     let l : c.loop-i.i < length c.args.values.now = omega arith in
-    let e = rw (value_read c.args.values.now c.requires.values_value.0 c.loop-i.i) at c.put_value-place.ensures in (
+    let e = rw (value_read c.args.values.now c.requires.small.0 c.loop-i.i) at c.put_value-place.ensures in (
       omega (arith, e.0, length_value (value here), small here, c.loop-i.invariant.0),
       putting_step value_bits _ _ _ (pos 0) l e.1 e.0 c.loop-i.invariant.1,
     )

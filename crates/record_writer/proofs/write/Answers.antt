@@ -104,10 +104,10 @@ pub write_over-requires : goal.write_over-requires
 write_over-requires c =
     let here = goal.at.write_over-requires c in
     record {
-      z2_value = passed _
+      field_set = passed _
           (degree here.Else-not-is_degree) (lengths here.Else-not-z1_length-z2_length)
           (positions here.Else-not-challenge_right) (sizes here.Else-not-z1_sizes-z2_sizes);
-      page_len = length-take-le _ _ (omega arith) ∙ c.record_length-length.ensures;
+      whole = length-take-le _ _ (omega arith) ∙ c.record_length-length.ensures;
     }
 
 pub returns : goal.returns

@@ -16,14 +16,14 @@ use Rattle.record_writer.proofs.write_over.Goals.{After-clear}
 zeros : (c : After-clear) → let a = c.args in
     c.clear.new.page ≡ replicate (bytes_for (length (field_bits (told a.n a.fields a.challenge.now a.z1.now a.z2.now)))) 0
 unfolding record_of
-zeros c = c.clear.ensures ∙ ap (λ (k : ℕ). replicate k 0) (c.requires.page_len ∙ length_packed _)
+zeros c = c.clear.ensures ∙ ap (λ (k : ℕ). replicate k 0) (c.requires.whole ∙ length_packed _)
 
 -- ** The needs
 
 pub put_fields-requires : goal.put_fields-requires
 put_fields-requires c =
     let cleared = ap length (zeros (goal.at.put_fields-requires c).After-clear) ∙ length-replicate {A = ℕ} _ 0 in
-    record { z2_value = c.requires.z2_value; z2_len_bound = omega (arith, cleared) }
+    record { field_set = c.requires.field_set; in_bounds = omega (arith, cleared) }
 
 pub returns : goal.returns
 unfolding record_of
