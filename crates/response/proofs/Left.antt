@@ -7,7 +7,6 @@ use native.Mathlib.Omega.{arith}
 use lib.ListN.{length, replicate, length-append}
 use lib.Seq.{sets}
 use lib.IntN.{ℤ, pos}
-use Rattle.arithmetic.specs.Words.{bit}
 use Rattle.read_list.specs.Entries.{entry, places_up}
 use Rattle.read_list.proofs.Runs.{length_places_up}
 use Rattle.read_list.proofs.Written.{sets_sets}

@@ -1,5 +1,4 @@
 -- `response::is_bounded` meets its contract. Assumes nothing.
-use borrow.Author.Rules.{rules}
 use mathlib.Core.Path.{sym}
 use lib.Seq.{length-take-le}
 use Rattle.response.specs.Response.{is_bounded}
