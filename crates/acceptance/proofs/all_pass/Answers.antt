@@ -1,5 +1,4 @@
 -- `acceptance::all_pass` meets its contract. Assumes nothing.
-use borrow.Author.Rules.{rules}
 use Rattle.acceptance.specs.Acceptance.{all_pass}
 use Rattle.acceptance.proofs.all_pass.Goals as goal
 

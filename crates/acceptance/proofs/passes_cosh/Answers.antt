@@ -1,5 +1,4 @@
 -- `acceptance::passes_cosh` meets its contract: both sides are numbers of two words. Assumes nothing.
-use borrow.Author.Rules.{rules}
 use mathlib.Core.Path.{◌≡◌, ap, ap₂, ◌∙◌}
 use Prim.Native.Nat.{ℕ, ◌+◌, ◌*◌, ◌/◌, ◌^◌, ◌≤◌}
 use native.Mathlib.Nat.{le_refl, le_trans, lt_of_le_of_lt, le-add_right, mul-le-mul, le_of_mul-le-mul_right}
