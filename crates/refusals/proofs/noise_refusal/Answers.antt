@@ -1,5 +1,4 @@
 -- `refusals::noise_refusal` meets its contract: of two joined tests that fail, the first that does. Assumes nothing.
-use borrow.Author.Rules.{rules}
 use borrow.Author.Tests.{eq-eqb, ne_eqb}
 use mathlib.Core.Path.{◌≡◌, refl}
 use mathlib.Core.Bool.{Bool, true, false, ◌&&◌}
