@@ -1,5 +1,4 @@
 -- `session::Session::responded_served` meets its contract. Assumes nothing.
-use borrow.Author.Rules.{rules}
 use Rattle.session.proofs.Session.responded_served.Goals as goal
 
 pub returns : goal.returns
