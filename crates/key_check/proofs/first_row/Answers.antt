@@ -1,19 +1,15 @@
 -- `key_check::first_row` meets its contract: before turn j its first j entries are held. Assumes nothing.
-use borrow.Author.Rules.{rules}
 use mathlib.Core.Path.{◌≡◌, ◌∙◌}
-use Prim.Native.Nat.{◌-◌, ◌≤◌}
 use native.Mathlib.Omega.{arith}
 use lib.IntN.{◌+ℤ◌}
 use mir.Syntax.{w32}
 use mir.Val.{to_z, of_z}
 use Rattle.signed.proofs.Signs.{read_back}
 use Rattle.key_check.specs.KeyCheck.{table}
-use Rattle.key_check.specs.Rows.{Holds, entry_bound}
+use Rattle.key_check.specs.Rows.{entry_bound}
 use Rattle.key_check.proofs.RowsHeld.{holds_none, holds_more, entry_is, entry_small}
 use Rattle.key_check.proofs.first_row.Goals as goal
 use Rattle.key_check.proofs.first_row.Goals.{After-half_inner-second}
-
--- ** The states, each from the one after it
 
 -- ** What the code asks for
 

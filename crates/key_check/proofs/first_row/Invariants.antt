@@ -1,14 +1,6 @@
-use borrow.Author.Rules.{rules}
-use mathlib.Core.Path.{◌≡◌, ◌∙◌}
 use Prim.Native.Nat.{◌-◌, ◌≤◌}
-use native.Mathlib.Omega.{arith}
-use lib.IntN.{◌+ℤ◌}
-use mir.Syntax.{w32}
-use mir.Val.{to_z, of_z}
-use Rattle.signed.proofs.Signs.{read_back}
 use Rattle.key_check.specs.KeyCheck.{table}
 use Rattle.key_check.specs.Rows.{Holds, entry_bound}
-use Rattle.key_check.proofs.RowsHeld.{holds_none, holds_more, entry_is, entry_small}
 use Rattle.key_check.proofs.first_row.Given as goal
 
 abbrev pub invariant-loop-j : goal.invariant-loop-j

@@ -1,7 +1,6 @@
 -- `key_check::half_inner` meets its contract: from place c on the rotation is direct, and before it wraps. Assumes nothing.
-use borrow.Author.Rules.{rules}
 use mathlib.Core.Path.{◌≡◌, ap₂, ◌∙◌}
-use Prim.Native.Nat.{◌-◌, ◌*◌, ◌≤◌}
+use Prim.Native.Nat.{◌*◌, ◌≤◌}
 use native.Mathlib.Omega.{arith}
 use lib.IntN.{ℤ, neg_ℤ, nat_abs, ◌-ℤ◌}
 use mir.Syntax.{w32}
@@ -10,8 +9,6 @@ use Rattle.signed.proofs.Signs.{abs_add, abs_neg, read_back, fits_of_abs}
 use Rattle.key_check.proofs.Stretches.{half_by_stretches}
 use Rattle.key_check.proofs.half_inner.Goals as goal
 use Rattle.key_check.proofs.half_inner.Goals.{After-stretch-wrapped}
-
--- ** The states, each from the one after it
 
 -- ** What the code asks for
 

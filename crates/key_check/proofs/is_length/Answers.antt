@@ -1,5 +1,4 @@
 -- `key_check::is_length` meets its contract. Assumes nothing.
-use borrow.Author.Rules.{rules}
 use mathlib.Core.Path.{ap₂}
 use mathlib.Core.Bool.{Bool, ◌&&◌}
 use Rattle.checks.proofs.JoinedTests.{some_not_none}
