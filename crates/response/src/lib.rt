@@ -81,7 +81,7 @@ fn add_product(word: u64, y: &[i32], z: &mut [i32]) -> Sums
         × (length z.old ≤ 2048)
         × (all_within noise_bound y.now ≡ true)
         × (all_within output_bound z.old ≡ true) }
-    ensures norm_value { (result.norm ≡ square_sum (response_of (subtracts word) y.now z.old))
+    ensures sums { (result.norm ≡ square_sum (response_of (subtracts word) y.now z.old))
         × (result.inner ≡ inner_product (response_of (subtracts word) y.now z.old) z.old) }
     ensures z_after { z.new ≡ response_of (subtracts word) y.now z.old }
 {
@@ -162,7 +162,7 @@ pub fn respond(
     list: &mut [u32],
 ) -> Answer
     requires factors { Factors key.now degree challenge.now }
-    requires table_value { (table.now ≡ polynomial)
+    requires lent { (table.now ≡ polynomial)
         × (limit * reciprocal < 2 ^ 84)
         × (3 ≤ length words.now)
         × (length y.old ≡ 2 * degree)

@@ -118,4 +118,4 @@ loop-i-preserved c =
 pub returns : goal.returns
 returns c =
     let all = add_end (length_response _ _ _ c.requires.0) c.loop-i.invariant (omega (arith, c.loop-i.invariant.size)) in
-    record { norm_value = all.0; z_after = all.1 }
+    record { sums = all.0; z_after = all.1 }

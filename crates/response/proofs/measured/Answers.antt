@@ -73,10 +73,10 @@ returns c =
     let made = c.product_listed-squares.ensures in
     let size = ap length made.z_after ∙ length_product a.key.now a.degree a.challenge.now in
     let within = ap (all_within output_bound) made.z_after ∙ product_within a.key.now a.degree c.requires.factors.small a.challenge.now c.requires.factors.few in
-    let inner = inner_read _ _ _ _ sums.norm_value.1 c.requires.in_bounds.2 within (omega (arith, size, c.requires.factors.degree)) in
+    let inner = inner_read _ _ _ _ sums.sums.1 c.requires.in_bounds.2 within (omega (arith, size, c.requires.factors.degree)) in
     let bounded = c.is_bounded-bounded.ensures ∙ ap (is_bounded a.degree) sums.z_after in
     record {
-      value = measures a.degree a.y.now sc _ _ _ _ a.words.now _ _ _ _ made.z_after words.0 words.1 words.2 made.value sums.norm_value.0 inner bounded;
+      value = measures a.degree a.y.now sc _ _ _ _ a.words.now _ _ _ _ made.z_after words.0 words.1 words.2 made.value sums.sums.0 inner bounded;
       z_after = sums.z_after ∙ response a.y.now sc _ _ a.words.now made.z_after words.0;
       list_after = written a.degree a.challenge.now a.list.now _ _ _ c.note.ensures made.list_after words.3;
     }

@@ -25,14 +25,14 @@ inner_small n y sc words hy hs short = omega (arith, inner_bound (subtracts (get
 
 pub measured-m-requires : goal.measured-m-requires
 measured-m-requires c =
-    let p = c.requires.table_value in
+    let p = c.requires.lent in
     record { factors = c.requires.factors; in_bounds = (p.2, p.3, p.4, p.5, omega (arith, p.6)) }
 
 pub judged-bit-requires : goal.judged-bit-requires
 judged-bit-requires c =
     let a = c.args in
     let f = c.requires.factors in
-    let p = c.requires.table_value in
+    let p = c.requires.lent in
     let sc = product a.key.now a.degree a.challenge.now in
     let within = product_within a.key.now a.degree f.small a.challenge.now f.few in
     let short : length sc ≤ 2048 = omega (arith, length_product a.key.now a.degree a.challenge.now, f.degree) in
@@ -53,7 +53,7 @@ unfolding response_bit
 returns c =
     let a = c.args in
     let made = c.measured-m.ensures in
-    let both = c.measured-m.auto.z ∙ c.requires.table_value.5 in
+    let both = c.measured-m.auto.z ∙ c.requires.lent.5 in
     response_left a.degree _ _ a.challenge.now _ a.list.now _ a.y.now _ _ _ _ _
-    (c.judged-bit.ensures.value ∙ ap (accepts_by _) made.value) (omega arith) c.requires.table_value.3 c.zero_all.ensures
+    (c.judged-bit.ensures.value ∙ ap (accepts_by _) made.value) (omega arith) c.requires.lent.3 c.zero_all.ensures
     both made.z_after c.keep_all.ensures made.list_after c.judged-bit.ensures.list_after

@@ -41,7 +41,7 @@ draw-counts-requires c =
         is_polynomial_lem = k.is_polynomial_lem;
         scales = rw c.reciprocal_at-reciprocal.ensures (scales_at _ k.has_deviation);
       };
-      degree_bound = (omega (arith, n), omega (arith, n, k.limit_high), k.words_enough, k.both, k.list_enough);
+      in_bounds = (omega (arith, n), omega (arith, n, k.limit_high), k.words_enough, k.both, k.list_enough);
     }
 
 pub drawn_served-requires : goal.drawn_served-requires

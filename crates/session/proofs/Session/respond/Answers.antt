@@ -39,7 +39,7 @@ respond-answer-requires c =
         few = k.positions.few;
         below = k.positions.below;
       };
-      table_value = (k.is_polynomial_lem, lit< tt, k.words_enough, k.y_both, k.y_small, k.z_both, k.list_enough);
+      lent = (k.is_polynomial_lem, lit< tt, k.words_enough, k.y_both, k.y_small, k.z_both, k.list_enough);
     }
 
 response_leaves : (s : Session) (r : Respond) (response : Response) (responded : Responded) → refusal_of_respond s r ≡ 0
