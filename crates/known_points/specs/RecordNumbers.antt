@@ -1,6 +1,6 @@
 -- Requests S-3 and S-4, the record of a signature, in bits and bytes worked out by hand: forms of values and their lengths, records, bytes
 -- that are none, and the order of refusals. negsuc k is -(k + 1). Assumes nothing.
-use Rattle.std.specs.Prelude.{◌≡◌, Bool, true, false, List, [], ◌∷◌, ◌++◌, ℕ, ◌+◌, ℤ, pos, negsuc, length, replicate}
+use Rattle.std.specs.Prelude.{◌≡◌, Bool, true, false, List, [], ◌∷◌, ◌++◌, ℕ, ℤ, pos, negsuc, length, replicate}
 use Rattle.std.proofs.Math.Option.{Option, none, some}
 use Rattle.response.specs.Response.{response_bound}
 use Rattle.record.specs.Record.{FieldSet, value_limit, value_bits, record_of}

@@ -1,5 +1,4 @@
 -- `bliss_box::bliss_exponential` meets its contract, which is that of the call. Assumes nothing.
-use borrow.Author.Rules.{rules}
 use Rattle.bliss_box.proofs.bliss_exponential.Goals as goal
 
 pub returns : goal.returns

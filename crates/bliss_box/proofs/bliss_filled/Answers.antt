@@ -1,5 +1,4 @@
 -- `bliss_box::bliss_filled` meets its contract. Assumes nothing.
-use borrow.Author.Rules.{rules}
 use mathlib.Core.Path.{ap}
 use lib.ListN.{length}
 use Rattle.bliss_box.proofs.bliss_filled.Goals as goal
