@@ -1,4 +1,4 @@
-/* The BLISS-I sampling box, for a host in C (C99 on) or C++ (C++11 on). Link libbliss_box.a, which `rt staticlib bliss_box` proves
+/* The BLISS-I sampling box, for a host in C (C99 on) or C++ (C++11 on). Link libbliss_box.a, which `scripts/archive` proves
  * and writes to target/staticlib; once ./install has put both in their places, pkg-config knows them as bliss_box.
  *
  * Layouts may change with any version: build header and archive from one version, and compare bliss_version() with

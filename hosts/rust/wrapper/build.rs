@@ -1,5 +1,5 @@
 //! Links `libbliss_box.a`: from the folder that `BLISS_BOX_LIB_DIR` names, else from the repository's `target/staticlib`, where
-//! `rt staticlib bliss_box` writes it. A relative folder counts from this package's own.
+//! `scripts/archive` writes it. A relative folder counts from this package's own.
 
 use std::env;
 use std::path::Path;
@@ -13,7 +13,7 @@ fn main() {
     let archive = folder.join("libbliss_box.a");
     println!("cargo:rerun-if-changed={}", archive.display());
     if !archive.is_file() {
-        eprintln!("{} is missing: run `rt staticlib bliss_box`, or name its folder in BLISS_BOX_LIB_DIR", archive.display());
+        eprintln!("{} is missing: run `scripts/archive`, or name its folder in BLISS_BOX_LIB_DIR", archive.display());
         process::exit(1);
     }
     println!("cargo:rustc-link-search=native={}", folder.display());

@@ -49,7 +49,7 @@
 //! The crate needs `core` and an allocator. Its feature `std`, which is on by default, brings `Secret::system_words`, the words of
 //! the system's random source; without it a host takes its words from elsewhere.
 //!
-//! The archive is linked from the repository's `target/staticlib`, where `rt staticlib bliss_box` writes it, or from the folder
+//! The archive is linked from the repository's `target/staticlib`, where `scripts/archive` writes it, or from the folder
 //! that the environment variable `BLISS_BOX_LIB_DIR` names when the crate is built.
 
 #![no_std]
