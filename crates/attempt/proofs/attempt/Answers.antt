@@ -8,8 +8,6 @@ use Rattle.attempt.proofs.AttemptLaws.{bit_at_lem, sample_at_lem, attempt_writte
 use borrow.Author.Rules.{rules}
 use Rattle.attempt.proofs.attempt.Goals as goal
 
--- ** The states, each from the one after it
-
 -- ** What the code asks for
 
 pub exp_listed-e-requires : goal.exp_listed-e-requires

@@ -15,8 +15,6 @@ use Rattle.base_sample.proofs.Thresholds.{word_small}
 use Rattle.base_sample.proofs.at_or_below.Invariants.{held, counted}
 use Rattle.base_sample.proofs.at_or_below.Goals as goal
 
--- ** The states, each from the one after it
-
 -- ** In the loop
 
 pub loop-i-init : goal.loop-i-init

@@ -10,8 +10,6 @@ use Rattle.read_list.proofs.Runs.{places_up_more}
 use Rattle.base_sample.proofs.high_words.Invariants.{held_word}
 use Rattle.base_sample.proofs.high_words.Goals as goal
 
--- ** The states, each from the one after it
-
 -- ** In the loop
 
 pub loop-place-init : goal.loop-place-init

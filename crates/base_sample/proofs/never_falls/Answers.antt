@@ -14,8 +14,6 @@ use Rattle.base_sample.proofs.never_falls.Invariants.{rises}
 use Rattle.base_sample.proofs.never_falls.Goals as goal
 use Rattle.base_sample.proofs.never_falls.Goals.{After-less62}
 
--- ** The states, each from the one after it
-
 -- ** In the loop
 
 pub loop-i-init : goal.loop-i-init

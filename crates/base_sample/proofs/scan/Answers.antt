@@ -14,8 +14,6 @@ all_listed : (l l₁ l₂ : List ℕ) (at : ℕ) → l₁ ≡ sets l at (places_
 unfolding places_up
 all_listed l l₁ l₂ at e₁ e₂ = written_behind l at (at + 10) (places_up 3 0 10) (places_up 3 10 10) e₁ e₂ refl
 
--- ** The states, each from the one after it
-
 -- ** Its calls
 
 pub slice_bounds-at_or_below-end : goal.slice_bounds-at_or_below-end

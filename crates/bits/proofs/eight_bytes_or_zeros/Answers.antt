@@ -8,7 +8,7 @@ use Rattle.bits.proofs.eight_bytes_or_zeros.Goals.{After-byte_at, In-loop-i}
 pub loop-i-init : goal.loop-i-init
 loop-i-init c = gather_start c.args.bytes.now c.args.k
 
--- ** The states: the start, the head of the loop; and the byte that is read
+-- ** What is known in a turn
 
 room : (c : In-loop-i) → c.loop-i.x < 2 ^ 56
 room c = gather_room c.args.bytes.now c.args.k c.loop-i.invariant (omega arith)

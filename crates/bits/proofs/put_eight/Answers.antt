@@ -9,8 +9,6 @@ use Rattle.bits.specs.Bits.{digits, put_bits}
 use Rattle.bits.proofs.Putting.{add_first, add_last, put_parts}
 use Rattle.bits.proofs.put_eight.Goals as goal
 
--- ** The states: behind the byte, and the start
-
 -- ** What is added
 
 -- the bits that are moved up to the second byte
@@ -22,7 +20,7 @@ moved_below x r h l =
     rw (moved_is x r h)
     (lt_of_lt_of_le (shl_lt {a = x} 8 (8 - r) (omega (arith, h))) (pow_mono {i = 8 + (8 - r)} {j = 16} (omega arith)))
 
--- ** The needs
+-- ** What the code asks for
 
 pub add_to_byte-requires : goal.add_to_byte-requires
 add_to_byte-requires c = let a = c.args in (omega arith, omega (arith, shr_le a.x (a.at % 8), c.requires))

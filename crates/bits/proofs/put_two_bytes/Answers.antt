@@ -6,9 +6,7 @@ use Rattle.bits.specs.Bits.{digits, put_bits}
 use Rattle.bits.proofs.Putting.{put_parts}
 use Rattle.bits.proofs.put_two_bytes.Goals as goal
 
--- ** The states: behind the byte, and the start
-
--- ** The needs
+-- ** What the code asks for
 
 pub returns : goal.returns
 returns c =

@@ -10,8 +10,6 @@ use Rattle.challenge.specs.Challenge.{ascends}
 use Rattle.challenge.proofs.ascending.Invariants.{rises, compared}
 use Rattle.challenge.proofs.ascending.Goals as goal
 
--- ** The states, each from the one after it
-
 -- ** What the code asks for
 
 pub loop-k-init : goal.loop-k-init

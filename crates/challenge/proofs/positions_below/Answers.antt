@@ -8,8 +8,6 @@ use Rattle.challenge.specs.Challenge.{positions_below}
 use Rattle.challenge.proofs.positions_below.Invariants.{is_below}
 use Rattle.challenge.proofs.positions_below.Goals as goal
 
--- ** The states, each from the one after it
-
 -- ** What the code asks for
 
 pub loop-k-init : goal.loop-k-init

@@ -27,8 +27,6 @@ After-output_at-output = lts.After-output_at tie.the-claims reads.Pre reads.Post
 abbrev After-square-squares : Type 0
 After-square-squares = lts.After-square tie.the-claims reads.Pre reads.Post goal.the-invariant-loop-i goal.the-decreases-loop-i tie.handed_clauses
 
--- ** The states, each from the one after it
-
 -- ** What is known in a turn
 
 -- the output that it makes

@@ -12,8 +12,6 @@ use Rattle.challenge_product.proofs.OutputByPositions.{sum_start, sum_more, sum_
 use Rattle.challenge_product.proofs.output_at.Goals as goal
 use Rattle.challenge_product.proofs.output_at.Goals.{After-term_at-term}
 
--- ** The states, each from the one after it
-
 -- ** What is known in a turn
 
 module _ (c : After-term_at-term) where

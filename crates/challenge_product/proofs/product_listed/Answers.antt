@@ -5,8 +5,6 @@ use Rattle.challenge_product.proofs.ProductByHalves.{turn_start, turn_z_size, tu
 use Rattle.challenge_product.proofs.ProductByHalves.{turn_below, turn_room, turn_small, turn_more, turn_end}
 use Rattle.challenge_product.proofs.product_listed.Goals as goal
 
--- ** The states, each from the one after it
-
 -- ** What the code asks for
 
 pub loop-base-init : goal.loop-base-init

@@ -11,8 +11,6 @@ use Rattle.signed.proofs.Vectors.{within_at}
 use Rattle.challenge_product.specs.Product.{term_at}
 use Rattle.challenge_product.proofs.term_at.Goals as goal
 
--- ** The states, each from the one after it
-
 -- ** The position does not wrap
 
 pub returns-then-c-i : goal.returns-then-c-i

@@ -3,9 +3,6 @@ use Rattle.exponential.specs.Exponential.{polynomial, entries_from, factorial}
 use Rattle.exponential.proofs.Table.{table_at}
 use Rattle.exponential.proofs.entry_at.Goals as goal
 
--- ?? array-read-result : tie.Need-array-read-result
--- ?? array-read-result c = search rules
-
 pub returns : goal.returns
 unfolding polynomial entries_from factorial
 returns c = table_at c.args.j c.requires

@@ -10,8 +10,6 @@ use Rattle.exponential.proofs.Steps.{table_length}
 use Rattle.exponential.proofs.Steps.{evaluating_starts, evaluating_asks, evaluating_goes_on, evaluating_ends}
 use Rattle.exponential.proofs.evaluate_listed.Goals as goal
 
--- ** The states, each from the one after it
-
 -- ** What the code asks for
 
 pub loop-j-init : goal.loop-j-init

@@ -2,8 +2,6 @@
 use Rattle.exponential.proofs.Steps.{exp_in_steps}
 use Rattle.exponential.proofs.exp_listed.Goals as goal
 
--- ** The states, each from the one after it
-
 -- ** What the code asks for
 
 pub returns : goal.returns

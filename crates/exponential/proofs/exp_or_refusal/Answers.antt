@@ -12,8 +12,6 @@ at_215 : (n : ℕ) → n ≤ limit → exp_scaled polynomial 3269134179596076729
 unfolding exp
 at_215 n h = rw (by_215 polynomial) (sym ((exponential_alone n).up_to h))
 
--- ** The states, each from the one after it
-
 -- ** What the code asks for
 
 pub returns-then-n-gt-LIMIT : goal.returns-then-n-gt-LIMIT

@@ -12,8 +12,6 @@ use Rattle.exponential.proofs.Table.{table_at, is_polynomial_lem, not_polynomial
 use Rattle.exponential.proofs.Steps.{table_length}
 use Rattle.exponential.proofs.is_polynomial.Goals as goal
 
--- ** The states, each from the one after it
-
 -- ** What the code asks for
 
 pub returns-then-table-ne-POLYNOMIAL_WORDS : goal.returns-then-table-ne-POLYNOMIAL_WORDS

@@ -14,8 +14,6 @@ use Rattle.largest.proofs.count_from.Invariants.{below_or_reaching}
 use Rattle.largest.proofs.count_from.Goals as goal
 use Rattle.largest.proofs.count_from.Goals.{After-value-1}
 
--- ** The states, each from the one after it
-
 -- ** One value
 
 module _ (c : After-value-1) where

@@ -25,8 +25,6 @@ After-over-1 = lts.After-over tie.the-claims reads.Pre reads.Post goal.the-invar
 abbrev After-kept-sum : Type 0
 After-kept-sum = lts.After-kept tie.the-claims reads.Pre reads.Post goal.the-invariant-loop-j goal.the-decreases-loop-j
 
--- ** The states, each from the one after it
-
 -- ** What the code asks for
 
 pub loop-j-init : goal.loop-j-init

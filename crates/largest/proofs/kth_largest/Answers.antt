@@ -24,8 +24,6 @@ In-loop-width = lts.In-loop tie.the-claims reads.Pre reads.Post goal.the-invaria
 abbrev After-kept-t : Type 0
 After-kept-t = lts.After-kept tie.the-claims reads.Pre reads.Post goal.the-invariant-loop-width goal.the-decreases-loop-width
 
--- ** The states, each from the one after it
-
 -- ** One turn
 
 module _ (c : In-loop-width) where

@@ -25,8 +25,6 @@ After-kth_largest-t = lts.After-kth_largest tie.the-claims reads.Pre reads.Post
 abbrev After-excess_over-over : Type 0
 After-excess_over-over = lts.After-excess_over tie.the-claims reads.Pre reads.Post
 
--- ** The states, each from the one after it
-
 -- ** What is found
 
 t_back : (c : After-kth_largest-t) → to_z w32 (of_z w32 c.kth_largest-t.result) ≡ c.kth_largest-t.result

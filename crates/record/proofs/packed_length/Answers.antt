@@ -7,8 +7,5 @@ use Rattle.record.proofs.packed_length.Goals as goal
 pub returns-then-size-gt-VALUE_LIMIT : goal.returns-then-size-gt-VALUE_LIMIT
 returns-then-size-gt-VALUE_LIMIT c = sym (packed_none (omega arith))
 
--- ?? array-read-result : tie.Need-array-read-result
--- ?? array-read-result c = search rules
-
 pub returns : goal.returns
 returns c = sym (packed_entry (omega arith))

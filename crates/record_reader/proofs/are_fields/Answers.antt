@@ -39,7 +39,7 @@ few c =
 behind_z1 : (c : Else-not-z1) → c.values_at-z1.result.end ≡ behind (next_value (bit_at c.args.bytes.now)) c.z1_start.result c.count_if.result
 behind_z1 c = c.values_at-z1.ensures.end (not-false _ c.if-not-z1.false)
 
--- ** The needs
+-- ** What the code asks for
 
 pub returns-then-not-is_degree : goal.returns-then-not-is_degree
 unfolding are_fields

@@ -28,7 +28,7 @@ next_is c =
     ∙ ap₂ (λ (i : ℕ) (k : Contents). behind (next_value t) i k.z1) c.z1_start.ensures.0 c.requires.right.1
     ∙ z2_start_read t
 
--- ** The needs
+-- ** What the code asks for
 
 pub get_positions-requires : goal.get_positions-requires
 get_positions-requires c =

@@ -30,7 +30,7 @@ taken s count h =
     ap (λ (k : ℕ). take k (sets (replicate 64 0) 0 (positions_at s 32 count))) (sym e)
     ∙ take_written (replicate 64 0) (positions_at s 32 count) (omega (arith, e))
 
--- ** The needs
+-- ** What the code asks for
 
 pub returns-then-count-gt-MOST_POSITIONS : goal.returns-then-count-gt-MOST_POSITIONS
 returns-then-count-gt-MOST_POSITIONS c =

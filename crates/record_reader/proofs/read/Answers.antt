@@ -26,7 +26,7 @@ have_room_lem : (c : Else-challenge-contents) →
     have_room c.contents_of-contents.result (length a.challenge.now) (length a.z1.now) (length a.z2.now) ≡ true
 have_room_lem c = not-false _ (sym (no_room c.contents_of-contents.result _ _ _) ∙ c.if-challenge-contents.false)
 
--- ** The needs
+-- ** What the code asks for
 
 pub returns-then-not-is_record : goal.returns-then-not-is_record
 returns-then-not-is_record c =

@@ -40,7 +40,7 @@ module _ (c : After-number_at-form) where
   size_is : c.number_at-form.result / 2 ^ 26 % 128 + 128 * (count_leading_zeros 64 (c.number_at-form.result % 2 ^ 26) - 38) ≡ size_at stream at
   size_is = rw (found.low, zeros_is)
 
--- ** The needs
+-- ** What the code asks for
 
 pub overflow_sub-zeros : goal.overflow_sub-zeros
 overflow_sub-zeros c = omega (arith, (found (goal.at.overflow_sub-zeros c).After-number_at-form).over)

@@ -24,7 +24,7 @@ room c =
 long : (c : After-put_byte) → length c.put_byte.new.page ≡ length c.args.page.now
 long c = ap length c.put_byte.ensures ∙ length_put _ _ _
 
--- ** The needs
+-- ** What the code asks for
 
 pub returns-then-not-has : goal.returns-then-not-has
 unfolding put_bits

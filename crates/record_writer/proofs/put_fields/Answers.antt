@@ -25,7 +25,7 @@ behind_z1 c =
     c.put_values-z2_place.ensures.0
     ∙ ap (λ (z : List ℤ). c.put_challenge-z1_place.result + length (joined value_bits z)) c.given_values.ensures
 
--- ** The needs
+-- ** What the code asks for
 
 pub put_header-requires : goal.put_header-requires
 put_header-requires c =

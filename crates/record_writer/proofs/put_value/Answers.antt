@@ -30,7 +30,7 @@ size c = c.size_of-size.ensures ∙ ap nat_abs (read_back c.ranges.value)
 minus : (c : After-size_of-size) → lt_z (to_z w32 (of_z w32 c.args.value)) (pos 0) ≡ negative c.args.value
 minus c = ap (λ (z : ℤ). lt_z z (pos 0)) (read_back c.ranges.value) ∙ below_zero c.args.value
 
--- ** The needs
+-- ** What the code asks for
 
 pub overflow_mul-minus : goal.overflow_mul-minus
 overflow_mul-minus c = omega (arith, bit_below (lt_z (to_z w32 (of_z w32 c.args.value)) (pos 0)))

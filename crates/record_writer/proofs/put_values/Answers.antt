@@ -19,7 +19,7 @@ module _ (c : At-loop-i) where
   small : nat_abs value ≤ value_limit
   small = value_small c.args.values.now c.requires.small.0 c.loop-i.i
 
--- ** The needs
+-- ** What the code asks for
 
 pub loop-i-init : goal.loop-i-init
 loop-i-init c = (omega arith, putting_start value_bits _ _ _)

@@ -28,7 +28,7 @@ module _ (c : After-values_length-z2_length) where
       let k = known c.args.n c.args.fields _ _ _ c.requires in
       omega (arith, c.challenge_length-header.ensures.1, z1_is, z2_is, k.a_most, k.b_most)
 
--- ** The needs
+-- ** What the code asks for
 
 pub challenge_length-header-requires : goal.challenge_length-header-requires
 challenge_length-header-requires c = (known c.args.n c.args.fields _ _ _ c.requires).few

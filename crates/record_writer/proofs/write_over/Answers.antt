@@ -18,7 +18,7 @@ zeros : (c : After-clear) → let a = c.args in
 unfolding record_of
 zeros c = c.clear.ensures ∙ ap (λ (k : ℕ). replicate k 0) (c.requires.whole ∙ length_packed _)
 
--- ** The needs
+-- ** What the code asks for
 
 pub put_fields-requires : goal.put_fields-requires
 put_fields-requires c =

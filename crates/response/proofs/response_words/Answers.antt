@@ -14,8 +14,6 @@ three : (l l₁ l₂ l₃ : List ℕ) (at : ℕ) → l₁ ≡ set l at (entry 2 
 unfolding places_up
 three l l₁ l₂ l₃ at e₁ e₂ e₃ = places_up_more 2 0 2 l at (places_up_more 2 0 1 l at e₁ e₂ refl refl) e₃ refl refl
 
--- ** The states, each from the one after it
-
 -- ** What the code asks for
 
 pub returns : goal.returns

@@ -13,8 +13,6 @@ use Rattle.sampler.proofs.WholeDraw.{full, spent}
 use Rattle.sampler.proofs.draw.Goals as goal
 use Rattle.sampler.proofs.draw.Goals.{At-loop-t, In-loop-t}
 
--- ** The states, each from the one after it
-
 -- ** Before the loop
 
 pub loop-t-init : goal.loop-t-init

@@ -6,8 +6,6 @@ use lib.ListN.{get_or}
 use Rattle.signed.proofs.all_within.Invariants.{comparisons, low_fits, turn_more, turn_end}
 use Rattle.signed.proofs.all_within.Goals as goal
 
--- ** The states, each from the one after it
-
 -- ** What the code asks for
 
 pub overflow_sub-low : goal.overflow_sub-low

@@ -11,8 +11,6 @@ use Rattle.signed.proofs.keep_all.Invariants.{keep_more, keep_start, keep_end}
 use Rattle.signed.proofs.keep_all.Goals as goal
 use Rattle.signed.proofs.keep_all.Goals.{After-kept-v}
 
--- ** The states, each from the one after it
-
 -- ** What is known in a turn
 
 -- what it stores

@@ -8,8 +8,6 @@ use lib.ListN.{length, set, length-set}
 use Rattle.lists.proofs.Filling.{fill_more, fill_all}
 use Rattle.signed.proofs.zero_all.Goals as goal
 
--- ** The states, each from the one after it
-
 -- ** What the code asks for
 
 pub loop-i-preserved : goal.loop-i-preserved
