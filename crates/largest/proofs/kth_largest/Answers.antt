@@ -2,7 +2,7 @@
 use mathlib.Core.Path.{◌≡◌}
 use mathlib.Core.Bool.{cond}
 use lib.Dec.{lit<, leb}
-use Prim.Native.Nat.{ℕ, ◌+◌, ◌/◌, ◌≤◌}
+use Prim.Native.Nat.{ℕ, ◌+◌, ◌/◌, ◌≤◌, ◌<◌}
 use native.Mathlib.Omega.{arith}
 use lib.IntN.{ℤ, pos, nat_abs, ◌+ℤ◌}
 use mir.Syntax.{w32}
@@ -12,43 +12,32 @@ use Rattle.signed.proofs.Signs.{abs_add, read_back, fits_of_abs}
 use Rattle.largest.specs.Threshold.{value_at, threshold_bound, sum_over, reaches}
 use Rattle.largest.proofs.Bracket.{Bracket, bracket_start, halved, bracket_turn, bracket_end}
 use Rattle.largest.proofs.kth_largest.Goals as goal
-use Rattle.largest.proofs.kth_largest.Lts as lts
-use Rattle.largest.proofs.kth_largest.Reads as reads
-use Rattle.largest.proofs.kth_largest.Tie as tie
 
--- ** The places of the code at which the lemmas below stand
+-- ** One turn, over plain variables
 
-abbrev In-loop-width : Type 0
-In-loop-width = lts.In-loop tie.the-claims reads.Pre reads.Post goal.the-invariant-loop-width goal.the-decreases-loop-width
+module _ {f : ℕ → ℤ} {n k : ℕ} {t : ℤ} {width : ℕ} (b : Bracket f n k t width) where
+  -- where the bracket begins fits
+  start_fits : SFits w32 t
+  start_fits = fits_of_abs (let s = b.small in omega arith)
 
-abbrev After-kept-t : Type 0
-After-kept-t = lts.After-kept tie.the-claims reads.Pre reads.Post goal.the-invariant-loop-width goal.the-decreases-loop-width
+  -- half the width is small, and read as it is
+  half_small : nat_abs t + width / 2 ≤ threshold_bound
+  half_small = let s = b.small in omega arith
 
--- ** One turn
+  half_read : to_z w32 (width / 2) ≡ pos (width / 2)
+  half_read = to_z_pos w32 (width / 2) (omega (arith, half_small))
 
-module _ (c : In-loop-width) where
-  abbrev half : ℕ
-  half = c.loop-width.width / 2
-
-  half_small : nat_abs (to_z w32 c.loop-width.t-bits) + half ≤ threshold_bound
-  half_small = let s = c.loop-width.invariant.small in omega arith
-
-  half_back : to_z w32 half ≡ pos half
-  half_back = to_z_pos w32 half (omega (arith, half_small))
-
-  tried_fits : SFits w32 (to_z w32 c.loop-width.t-bits +ℤ to_z w32 half)
-  tried_fits = rw half_back (fits_of_abs (omega (arith, half_small, abs_add (to_z w32 c.loop-width.t-bits) (pos half))))
+  -- so does what is tried
+  tried_fits : SFits w32 (t +ℤ to_z w32 (width / 2))
+  tried_fits = rw half_read (fits_of_abs (omega (arith, half_small, abs_add t (pos (width / 2)))))
 
   -- the bracket that the turn leaves
-  left : (kept : ℤ) (many : ℕ) →
-      many ≡ sum_over (reaches (to_z w32 (of_z w32 (to_z w32 c.loop-width.t-bits +ℤ to_z w32 half)))) (value_at c.args.values.now)
-      c.args.n
-      → kept ≡ cond (leb c.args.k many) (to_z w32 half) (pos 0)
-      → Bracket (value_at c.args.values.now) c.args.n c.args.k (to_z w32 c.loop-width.t-bits +ℤ kept) half
-  left kept many m k =
-      let b = bracket_turn (value_at c.args.values.now) c.args.n c.args.k (to_z w32 c.loop-width.t-bits)
-      c.loop-width.width half c.loop-width.invariant (halved _ _ _ _ _ c.loop-width.invariant c.loop-width-test.true) in
-      rw (k, m, read_back tried_fits, half_back) b
+  left : {kept : ℤ} {many : ℕ} → 1 < width → SFits w32 kept
+      → many ≡ sum_over (reaches (to_z w32 (of_z w32 (t +ℤ to_z w32 (width / 2))))) f n
+      → kept ≡ cond (leb k many) (to_z w32 (width / 2)) (pos 0)
+      → Bracket f n k (t +ℤ to_z w32 (of_z w32 kept)) (width / 2)
+  left h fits em ek =
+      rw (read_back fits, ek, em, read_back tried_fits, half_read) (bracket_turn f n k t width (width / 2) b (halved f n k t width b h))
 
 -- ** What the code asks for
 
@@ -59,30 +48,25 @@ pub loop-width-init : goal.loop-width-init
 loop-width-init c = let p = c.requires in bracket_start (value_at c.args.values.now) c.args.n c.args.k p.0.small p.1 p.2
 
 pub overflow_cast-half : goal.overflow_cast-half
-overflow_cast-half c = fits_of_abs (omega (arith, half_small c))
+overflow_cast-half c = fits_of_abs (omega (arith, half_small c.loop-width.invariant))
 
 pub overflow_add-t : goal.overflow_add-t
-overflow_add-t c = tried_fits c
+overflow_add-t c = tried_fits c.loop-width.invariant
 
 pub count_from-many-requires : goal.count_from-many-requires
 count_from-many-requires c = c.requires.0
 
-left_by : (c : After-kept-t) →
-    Bracket (value_at c.args.values.now) c.args.n c.args.k (to_z w32 c.loop-width.t-bits +ℤ c.kept-t.result)
-    (half c.before.before)
-left_by c = left c.before.before c.kept-t.result c.count_from-many.result c.count_from-many.ensures c.kept-t.ensures
-
-kept_back : (c : After-kept-t) → to_z w32 (of_z w32 c.kept-t.result) ≡ c.kept-t.result
-kept_back c = read_back {w = w32} (record { sfits = c.kept-t.type_inv })
-
 pub overflow_add-t-in-loop-width : goal.overflow_add-t-in-loop-width
-overflow_add-t-in-loop-width c = rw (kept_back c) (fits_of_abs (let s = (left_by c).small in omega arith))
+overflow_add-t-in-loop-width c =
+    start_fits (left c.loop-width.invariant c.loop-width-test.true (record { sfits = c.kept-t.type_inv }) c.count_from-many.ensures c.kept-t.ensures)
 
 pub loop-width-smaller : goal.loop-width-smaller
 loop-width-smaller c = omega (arith, c.loop-width-test.true)
 
 pub loop-width-preserved : goal.loop-width-preserved
-loop-width-preserved c = rw (read_back (overflow_add-t-in-loop-width c), kept_back c) (left_by c)
+loop-width-preserved c =
+    let b = left c.loop-width.invariant c.loop-width-test.true (record { sfits = c.kept-t.type_inv }) c.count_from-many.ensures c.kept-t.ensures in
+    rw (read_back (start_fits b)) b
 
 pub returns : goal.returns
 returns c = (bracket_end _ _ _ _ _ c.loop-width.invariant (omega arith), (let s = c.loop-width.invariant.small in omega arith))

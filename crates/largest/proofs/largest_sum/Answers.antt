@@ -1,82 +1,67 @@
 -- `largest::largest_sum` meets its contract: k times the k-th largest, and by how much the others are over it. Assumes nothing.
-use mathlib.Core.Path.{◌≡◌, sym, ap, ◌∙◌}
-use Prim.Native.Nat.{ℕ}
+use mathlib.Core.Path.{◌≡◌, sym}
+use mathlib.Core.List.{List}
+use Prim.Native.Nat.{ℕ, ◌≤◌}
 use native.Mathlib.Nat.{mul-le-mul}
 use native.Mathlib.Omega.{arith}
-use lib.IntN.{ℤ, pos, ◌+ℤ◌, ◌*ℤ◌}
+use lib.IntN.{ℤ, pos, nat_abs, ◌+ℤ◌, ◌*ℤ◌}
 use mir.Syntax.{w32}
 use mir.Val.{SFits, to_z, of_z}
 use mir.ValLaws.{to_z_pos}
 use Rattle.signed.proofs.Signs.{abs_mul, read_back, fits_of_abs}
 use Rattle.largest.specs.Largest.{largest_sum}
-use Rattle.largest.specs.Threshold.{value_at, value_bound}
+use Rattle.largest.specs.Threshold.{value_at, value_bound, threshold_bound, InRange, sum_over, excess, IsKth}
 use Rattle.largest.proofs.Falling.{largest_sum_small}
 use Rattle.largest.proofs.Threshold.{largest_by_kth}
 use Rattle.largest.proofs.largest_sum.Goals as goal
-use Rattle.largest.proofs.largest_sum.Lts as lts
-use Rattle.largest.proofs.largest_sum.Reads as reads
-use Rattle.largest.proofs.largest_sum.Tie as tie
 
--- ** The places of the code at which the lemmas below stand
+-- ** What is found, over plain variables
 
-abbrev After-kth_largest-t : Type 0
-After-kth_largest-t = lts.After-kth_largest tie.the-claims reads.Pre reads.Post
+-- t is read from its bits as it is
+t_read : {t : ℤ} → nat_abs t ≤ threshold_bound → to_z w32 (of_z w32 t) ≡ t
+t_read h = read_back (fits_of_abs {w = w32} (omega arith))
 
-abbrev After-excess_over-over : Type 0
-After-excess_over-over = lts.After-excess_over tie.the-claims reads.Pre reads.Post
+-- and so is k
+k_read : {k : ℕ} → k ≤ 64 → to_z w32 k ≡ pos k
+k_read {k} h = to_z_pos w32 k (omega arith)
 
--- ** What is found
+-- k times t, as the code has it, fits
+product_fits : (k : ℕ) (t : ℤ) → k ≤ 64 → nat_abs t ≤ threshold_bound → SFits w32 (to_z w32 k *ℤ to_z w32 (of_z w32 t))
+product_fits k t few small = rw (k_read few, t_read small) (fits_of_abs (omega (arith, abs_mul (pos k) t, mul-le-mul few small)))
 
-t_back : (c : After-kth_largest-t) → to_z w32 (of_z w32 c.kth_largest-t.result) ≡ c.kth_largest-t.result
-t_back c = read_back {w = w32} (record { sfits = c.kth_largest-t.type_inv })
-
-module _ (c : After-excess_over-over) where
-  abbrev t : ℤ
-  t = c.kth_largest-t.result
-
-  abbrev k : ℕ
-  k = c.args.k
-
-  abbrev sum : ℤ
-  sum = largest_sum (value_at c.args.values.now) c.args.n k
-
-  k_back : to_z w32 k ≡ pos k
-  k_back = to_z_pos w32 k (omega (arith, c.requires.3))
-
-  product_fits : SFits w32 (pos k *ℤ t)
-  product_fits =
-      let few = mul-le-mul c.requires.3 c.kth_largest-t.ensures.1 in
-      fits_of_abs (omega (arith, abs_mul (pos k) t, few))
-
-  sum_is : (pos k *ℤ t) +ℤ c.excess_over-over.result ≡ sum
-  sum_is =
-      ap (λ (x : ℤ). (pos k *ℤ t) +ℤ x) (c.excess_over-over.ensures ∙ rw (t_back c.before))
-      ∙ sym (largest_by_kth (value_at c.args.values.now) c.args.n k t c.kth_largest-t.ensures.0)
-
-  sum_fits : SFits w32 sum
-  sum_fits =
-      let few = c.requires.3 in
-      let small = largest_sum_small value_bound (value_at c.args.values.now) c.args.n k (λ j h. omega (arith, c.requires.0.small j)) in
+module _ (values : List ℤ) (n k : ℕ) (few : k ≤ 64) where
+  -- the sum that is wanted fits
+  sum_fits : InRange values n → SFits w32 (largest_sum (value_at values) n k)
+  sum_fits range =
+      let small = largest_sum_small value_bound (value_at values) n k (λ j h. omega (arith, range.small j)) in
       fits_of_abs (omega (arith, small))
 
-  -- what the code works out
-  sum_made : to_z w32 (of_z w32 (to_z w32 k *ℤ to_z w32 (of_z w32 t))) +ℤ to_z w32 (of_z w32 c.excess_over-over.result) ≡ sum
-  sum_made =
-      rw (t_back c.before, k_back, read_back product_fits, read_back {z = c.excess_over-over.result} (record { sfits = c.excess_over-over.type_inv }))
-      sum_is
+  -- and is what the code works out
+  sum_made : (t : ℤ) {over : ℤ} → IsKth (value_at values) n k t → nat_abs t ≤ threshold_bound → SFits w32 over
+      → over ≡ pos (sum_over (excess (to_z w32 (of_z w32 t))) (value_at values) n)
+      → to_z w32 (of_z w32 (to_z w32 k *ℤ to_z w32 (of_z w32 t))) +ℤ to_z w32 (of_z w32 over) ≡ largest_sum (value_at values) n k
+  sum_made t kth small fits is =
+      rw (read_back (product_fits k t few small), read_back fits, is, k_read few, t_read small)
+      (sym (largest_by_kth (value_at values) n k t kth))
 
 -- ** What the code asks for
 
 pub excess_over-over-requires : goal.excess_over-over-requires
 excess_over-over-requires c =
-    let few = c.kth_largest-t.ensures.0.over in
-    rw (t_back c) (c.requires.0, c.kth_largest-t.ensures.1, omega (arith, few, c.requires.3))
+    let kth = c.kth_largest-t.ensures in
+    rw (t_read kth.1) (c.requires.0, kth.1, omega (arith, kth.0.over, c.requires.3))
 
 pub overflow_mul-result : goal.overflow_mul-result
-overflow_mul-result c = rw (t_back c.before, k_back c) (product_fits c)
+overflow_mul-result c = product_fits c.args.k c.kth_largest-t.result c.requires.3 c.kth_largest-t.ensures.1
 
 pub overflow_add-result : goal.overflow_add-result
-overflow_add-result c = rw (sum_made c) (sum_fits c)
+overflow_add-result c =
+    let kth = c.kth_largest-t.ensures in
+    rw (sum_made _ _ _ c.requires.3 c.kth_largest-t.result kth.0 kth.1 (record { sfits = c.excess_over-over.type_inv }) c.excess_over-over.ensures)
+    (sum_fits _ _ _ c.requires.3 c.requires.0)
 
 pub returns : goal.returns
-returns c = read_back (overflow_add-result c) ∙ sum_made c
+returns c =
+    let kth = c.kth_largest-t.ensures in
+    let sum = sum_made _ _ _ c.requires.3 c.kth_largest-t.result kth.0 kth.1 (record { sfits = c.excess_over-over.type_inv }) c.excess_over-over.ensures in
+    rw sum (read_back (sum_fits _ _ _ c.requires.3 c.requires.0))
