@@ -24,14 +24,14 @@ module _ (a b w m₁ m₂ m₃ : ℕ)
     (m₂_is : m₂ ≡ a % 2 ^ 32 * (b / 2 ^ 32)) (m₃_is : m₃ ≡ a / 2 ^ 32 * (b / 2 ^ 32)) where
   words : (t u : ℕ) → t ≡ m₁ + w / 2 ^ 32 → u ≡ t % 2 ^ 32 + m₂
       → (m₃ + t / 2 ^ 32 + u / 2 ^ 32) * 2 ^ 64 + (u % 2 ^ 32 * 2 ^ 32 + w % 2 ^ 32) ≡ a * b
-  words t u t-is u-is =
+  words t u t_is u_is =
       let law : (a / 2 ^ 32 * (b / 2 ^ 32) + t / 2 ^ 32 + u / 2 ^ 32) * (2 ^ 32 * 2 ^ 32) + (u % 2 ^ 32 * 2 ^ 32 + w % 2 ^ 32) ≡ (a / 2 ^ 32 * 2 ^ 32 + a % 2 ^ 32) * (b / 2 ^ 32 * 2 ^ 32 + b % 2 ^ 32) =
       columns (2 ^ 32) (a % 2 ^ 32) (a / 2 ^ 32) (b % 2 ^ 32) (b / 2 ^ 32) (w / 2 ^ 32) (w % 2 ^ 32) (t / 2 ^ 32) (t % 2 ^ 32) (u / 2 ^ 32) (u % 2 ^ 32) (omega arith) (omega arith) (omega arith) in
       rw m₃_is (rw (div-add-mod' a (2 ^ 32), div-add-mod' b (2 ^ 32)) at law)
 
   -- the high word, with the carries of the columns below it
   pub high_word : (t u : ℕ) → t ≡ m₁ + w / 2 ^ 32 → u ≡ t % 2 ^ 32 + m₂ → m₃ + t / 2 ^ 32 + u / 2 ^ 32 ≡ a * b / 2 ^ 64
-  high_word t u t-is u-is = omega (arith, words t u t-is u-is)
+  high_word t u t_is u_is = omega (arith, words t u t_is u_is)
 
   -- the low word, without what its columns carry on
   pub low_word : (m₁ % 2 ^ 32 + m₂ % 2 ^ 32 + w / 2 ^ 32) * 2 ^ 32 % 2 ^ 64 + w % 2 ^ 32 ≡ a * b % 2 ^ 64

@@ -5,7 +5,7 @@ use mathlib.Core.List.{List, [], ◌∷◌}
 use Prim.Native.Nat.{ℕ}
 use native.Mathlib.Omega.{arith}
 use lib.Dec.{leb, ltb, eqb}
-use borrow.Author.Tests.{not-true, not-false, ltb-true, ltb-false, lt-leb, le-leb, eq-eqb, ne_eqb}
+use borrow.Author.Tests.{ltb-true, ltb-false, lt-leb, le-leb, eq-eqb, ne_eqb}
 
 -- ** One test
 
@@ -15,13 +15,6 @@ holds e h = sym e ∙ h
 
 pub fails : {made test : Bool} → made ≡ test → made ≡ false → test ≡ false
 fails e h = sym e ∙ h
-
--- the same where code tests that another fails
-pub holds_else : {made test : Bool} → made ≡ not test → made ≡ false → test ≡ true
-holds_else e h = not-false _ (sym e ∙ h)
-
-pub fails_then : {made test : Bool} → made ≡ not test → made ≡ true → test ≡ false
-fails_then e h = not-true _ (sym e ∙ h)
 
 -- what code tests by `<`, as the definitions have it: by `leb`
 pub below_not_above : (a b : ℕ) → ltb a b ≡ not (leb b a)

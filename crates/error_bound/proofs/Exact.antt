@@ -145,8 +145,8 @@ cancel x y k l d h g = le_of_mul-le-mul_right {k = d} (omega arith) h
 
 pub within_is_near : WithinIsNear
 unfolding Within
-within_is_near k l x y q n h near-x near-y =
+within_is_near k l x y q n h near_x near_y =
     let d = denominator q ^ 64 in
     let exact = pos (2 ^ 62) *ℤ pow (numerator q n) 64 in
     cancel x y k l d (positive_power (denominator q) 64 (positive_denominator q h))
-    (apart (x * d) (y * d) (k * d) (l * d) exact near-x near-y)
+    (apart (x * d) (y * d) (k * d) (l * d) exact near_x near_y)

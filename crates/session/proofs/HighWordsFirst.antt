@@ -22,9 +22,9 @@ use Rattle.session.proofs.ByRule.{exp_at_over}
 
 pub draw_refused_as_before : DrawRefusedAsBefore
 unfolding refusal_of_draw
-draw_refused_as_before s d table is-reordered =
+draw_refused_as_before s d table is_reordered =
     (draw_left_lem s d).number_is
-    ∙ rw is-reordered (reordered_as_before s.degree s.deviation d.limit table d.polynomial (length d.words) (length d.y) (length d.list))
+    ∙ rw is_reordered (reordered_as_before s.degree s.deviation d.limit table d.polynomial (length d.words) (length d.y) (length d.list))
 
 -- ** A draw that is served
 
@@ -46,7 +46,7 @@ same_base_samples : (table : List ℕ) → length table ≡ 20 → base_sample (
 same_base_samples table twenty = fun_ext (reordered_alike table twenty).base_samples
 
 pub drawn_as_before : DrawnAsBefore
-drawn_as_before s d table is-reordered h =
-    let twenty : length table ≡ 20 = omega (arith, ap length is-reordered, length_reordered table, (draw_passed s d h).twenty) in
-    subst (λ (x : ℕ → ℕ). DrawnBy x s d (draw_left s d) (bits_of_draw s d)) (ap base_sample is-reordered ∙ same_base_samples table twenty)
+drawn_as_before s d table is_reordered h =
+    let twenty : length table ≡ 20 = omega (arith, ap length is_reordered, length_reordered table, (draw_passed s d h).twenty) in
+    subst (λ (x : ℕ → ℕ). DrawnBy x s d (draw_left s d) (bits_of_draw s d)) (ap base_sample is_reordered ∙ same_base_samples table twenty)
     (drawn_by s d h)

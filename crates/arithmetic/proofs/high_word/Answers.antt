@@ -1,22 +1,7 @@
 -- `arithmetic::high_word` meets its contract: the law of the columns. Each sum fits by the bounds that `mul32` ensures. Assumes nothing.
-use native.Mathlib.Omega.{arith}
 use mathlib.Core.Path.{refl}
 use Rattle.arithmetic.proofs.Columns.{high_word}
 use Rattle.arithmetic.proofs.high_word.Goals as goal
-
-pub overflow_add-result-2 : goal.overflow_add-result-2
-overflow_add-result-2 c =
-    omega (
-      arith,
-      c.high32-3.ensures,
-      c.high32-2.ensures,
-      c.mul32-4.ensures.1,
-      c.mul32-3.ensures.1,
-      c.low32.ensures,
-      c.high32.ensures,
-      c.mul32-2.ensures.1,
-      c.mul32.ensures.1,
-    )
 
 pub returns : goal.returns
 returns c =

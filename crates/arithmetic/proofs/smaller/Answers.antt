@@ -6,7 +6,6 @@ use native.Mathlib.Omega.{arith}
 use lib.Dec.{leb}
 use borrow.Author.Tests.{leb-true, leb-false}
 use mir.Val.{bool_byte}
-use Rattle.arithmetic.proofs.smaller.Goals as goal
 use Rattle.arithmetic.proofs.smaller.Goals.{Start}
 
 record Chosen (a b : ℕ) (first : Bool) : Type 0 where
@@ -25,18 +24,3 @@ chosen a b ha hb = by (leb a b) refl
 
 both : (c : Start) → Chosen c.args.a c.args.b (leb c.args.a c.args.b)
 both c = chosen c.args.a c.args.b c.ranges.a.fits c.ranges.b.fits
-
-pub overflow_mul-result : goal.overflow_mul-result
-overflow_mul-result c = record { fits = (both (goal.at.overflow_mul-result c).Start).a_fits }
-
-pub overflow_sub-result : goal.overflow_sub-result
-overflow_sub-result c = (both (goal.at.overflow_sub-result c).Start).bit
-
-pub overflow_mul-result-2 : goal.overflow_mul-result-2
-overflow_mul-result-2 c = record { fits = (both (goal.at.overflow_mul-result-2 c).Start).b_fits }
-
-pub overflow_add-result : goal.overflow_add-result
-overflow_add-result c = record { fits = (both (goal.at.overflow_add-result c).Start).fits }
-
-pub returns : goal.returns
-returns c = (both (goal.at.returns c).Start).value

@@ -3,16 +3,9 @@ use mathlib.Core.Path.{◌≡◌}
 use Prim.Native.Nat.{ℕ, ◌+◌, ◌*◌, ◌/◌, ◌%◌, ◌^◌, ◌≤◌, ◌<◌}
 use native.Mathlib.Nat.{mul-le-mul_left}
 use native.Mathlib.Omega.{arith}
-use Rattle.arithmetic.proofs.square_round62.Goals as goal
 
 rounded : (a : ℕ) → 2 * a * (2 * a) / 2 ^ 64 + 2 * a * (2 * a) % 2 ^ 64 / 2 ^ 63 ≡ (a * a + 2 ^ 61) / 2 ^ 62
 rounded a = omega arith
 
 fits : (a : ℕ) → a ≤ 2 ^ 62 → 2 * a * (2 * a) / 2 ^ 64 + 2 * a * (2 * a) % 2 ^ 64 / 2 ^ 63 < 2 ^ 64
 fits a h = rw rounded (omega (arith, mul-le-mul_left a h))
-
-pub overflow_add-result : goal.overflow_add-result
-overflow_add-result c = record { fits = rw (c.high_word.ensures, c.low_word.ensures) (fits c.args.a c.requires) }
-
-pub returns : goal.returns
-returns c = rw (c.high_word.ensures, c.low_word.ensures) (rounded c.args.a)

@@ -1,13 +1,9 @@
 -- `base_sample::at_or_below` meets its contract. The loop's invariant: of the thresholds before i, x lacks those that are above the draw, and
 -- their low words' entries are listed. Assumes nothing.
 use mathlib.Core.Path.{◌≡◌, refl, ap}
-use Prim.Native.Nat.{◌+◌, ◌*◌, ◌^◌}
 use native.Mathlib.Omega.{arith}
-use lib.Dec.{ltb}
-use lib.ListN.{length, get_or, length-set}
-use lib.Seq.{length-take-le}
+use lib.ListN.{length-set}
 use Rattle.arithmetic.specs.Words.{value62}
-use Rattle.arithmetic.proofs.Bits.{bit_le}
 use Rattle.read_list.specs.Entries.{places_up}
 use Rattle.read_list.proofs.Runs.{places_up_more}
 use Rattle.base_sample.specs.BaseSample.{threshold, at_or_below, base_sample}
@@ -21,22 +17,6 @@ pub loop-i-init : goal.loop-i-init
 unfolding at_or_below places_up
 loop-i-init c = record { turns = omega arith; small = omega arith; count = refl; same = refl; entries = refl }
 
-pub overflow_add-i : goal.overflow_add-i
-overflow_add-i c = omega arith
-
-pub overflow_add-at : goal.overflow_add-at
-overflow_add-at c = omega arith
-
-pub listed_word-low-requires : goal.listed_word-low-requires
-listed_word-low-requires c = omega arith
-
-pub offset_bounds-high-i : goal.offset_bounds-high-i
-offset_bounds-high-i c = omega arith
-
-pub bounds-high-i : goal.bounds-high-i
-bounds-high-i c =
-    omega (arith, ap length c.requires.2, length-take-le 10 c.args.cdt.now (omega arith))
-
 pub less62-x-requires : goal.less62-x-requires
 less62-x-requires c =
     let table = c.args.cdt.now in
@@ -45,17 +25,6 @@ less62-x-requires c =
       rw (held table c.args.high.now c.loop-i.i c.requires.2 (omega arith)) (word_small table _ (omega arith) small),
       rw c.listed_word-low.ensures.0 (word_small table _ (omega arith) small),
     )
-
-pub overflow_sub-x : goal.overflow_sub-x
-overflow_sub-x c =
-    let s = c.args in
-    omega (arith, c.less62-x.ensures, bit_le (ltb (value62 s.draw) (get_or s.high.now c.loop-i.i 0 * 2 ^ 62 + c.listed_word-low.result)))
-
-pub overflow_add-i-in-loop-i : goal.overflow_add-i-in-loop-i
-overflow_add-i-in-loop-i c = omega arith
-
-pub loop-i-smaller : goal.loop-i-smaller
-loop-i-smaller c = omega arith
 
 pub loop-i-preserved : goal.loop-i-preserved
 loop-i-preserved c =

@@ -7,9 +7,6 @@ pub returns-then-not-words_small : goal.returns-then-not-words_small
 unfolding is_cdt
 returns-then-not-words_small c = rw (fails c.words_small.ensures c.if-not-words_small.true)
 
-pub never_falls-requires : goal.never_falls-requires
-never_falls-requires c = (c.requires, holds c.words_small.ensures c.if-not-words_small.false)
-
 pub returns : goal.returns
 unfolding is_cdt
 returns c = rw (holds c.words_small.ensures c.if-not-words_small.false) c.never_falls.ensures

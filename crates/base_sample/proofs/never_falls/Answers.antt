@@ -19,9 +19,6 @@ use Rattle.base_sample.proofs.never_falls.Goals.{After-less62}
 pub loop-i-init : goal.loop-i-init
 loop-i-init c = (omega arith, all_none _)
 
-pub overflow_add-i : goal.overflow_add-i
-overflow_add-i c = omega arith
-
 pub less62-requires : goal.less62-requires
 less62-requires c =
     let here = c.threshold_at-here.ensures in
@@ -55,12 +52,6 @@ unfolding never_falls
 returns-then-less62-eq1 c =
     let place = (goal.at.returns-then-less62-eq1 c).After-less62 in
     sym (all_broken (rises (table place)) (here place) 9 c.loop-i-test.true (is_below (threshold (table place) (here place)) (threshold (table place) (suc (here place))) (sym (compared place) ∙ c.if-less62-eq1.true)))
-
-pub overflow_add-i-in-loop-i : goal.overflow_add-i-in-loop-i
-overflow_add-i-in-loop-i c = omega arith
-
-pub loop-i-smaller : goal.loop-i-smaller
-loop-i-smaller c = omega arith
 
 pub loop-i-preserved : goal.loop-i-preserved
 loop-i-preserved c =

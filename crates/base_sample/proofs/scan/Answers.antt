@@ -1,10 +1,8 @@
 -- `base_sample::scan` meets its contract: the entries of the low words stand behind those of the high words. Assumes nothing.
-use mathlib.Core.Path.{◌≡◌, refl, sym, ap, ◌∙◌}
+use mathlib.Core.Path.{◌≡◌, refl}
 use mathlib.Core.List.{List}
 use Prim.Native.Nat.{ℕ, ◌+◌}
-use native.Mathlib.Omega.{arith}
-use lib.ListN.{length}
-use lib.Seq.{sets, length-sets, length-take-le}
+use lib.Seq.{sets}
 use Rattle.read_list.specs.Entries.{places_up}
 use Rattle.read_list.proofs.Written.{written_behind}
 use Rattle.base_sample.proofs.scan.Goals as goal
@@ -15,18 +13,6 @@ unfolding places_up
 all_listed l l₁ l₂ at e₁ e₂ = written_behind l at (at + 10) (places_up 3 0 10) (places_up 3 10 10) e₁ e₂ refl
 
 -- ** Its calls
-
-pub slice_bounds-at_or_below-end : goal.slice_bounds-at_or_below-end
-slice_bounds-at_or_below-end c =
-    sym (ap length c.high_words-high.ensures.0 ∙ length-take-le 10 c.args.cdt.now (omega arith))
-
-pub overflow_add-at : goal.overflow_add-at
-overflow_add-at c = omega arith
-
-pub at_or_below-requires : goal.at_or_below-requires
-at_or_below-requires c =
-    let given = c.requires in
-    (given.0, given.1, c.high_words-high.ensures.0, given.2, rw (c.high_words-high.ensures.1, length-sets) (omega arith))
 
 pub returns : goal.returns
 returns c =

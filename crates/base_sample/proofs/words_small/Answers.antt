@@ -9,21 +9,9 @@ use Rattle.base_sample.proofs.words_small.Goals as goal
 pub loop-i-init : goal.loop-i-init
 loop-i-init c = (omega arith, all_none _)
 
-pub offset_bounds-cdt-i : goal.offset_bounds-cdt-i
-offset_bounds-cdt-i c = omega arith
-
-pub bounds-cdt-i : goal.bounds-cdt-i
-bounds-cdt-i c = omega arith
-
 pub returns-then-cdt-i-ge-TWO_62 : goal.returns-then-cdt-i-ge-TWO_62
 unfolding words_small
 returns-then-cdt-i-ge-TWO_62 c = sym (all_broken _ _ 20 c.loop-i-test.true (le-ltb _ _ c.if-cdt-i-ge-TWO_62.true))
-
-pub overflow_add-i : goal.overflow_add-i
-overflow_add-i c = omega arith
-
-pub loop-i-smaller : goal.loop-i-smaller
-loop-i-smaller c = omega arith
 
 pub loop-i-preserved : goal.loop-i-preserved
 loop-i-preserved c = (omega arith, all_more _ _ c.loop-i.invariant.1 (lt-ltb _ _ c.if-cdt-i-ge-TWO_62.false))

@@ -3,11 +3,8 @@ use mathlib.Core.Path.{◌≡◌, ap, ap₂, ◌∙◌}
 use Prim.Native.Nat.{ℕ, ◌+◌, ◌-◌, ◌*◌, ◌/◌, ◌%◌, ◌^◌}
 use native.Mathlib.Omega.{arith}
 use Rattle.bits.specs.Bits.{number, bit_at}
-use Rattle.bits.proofs.Numbers.{power_positive, shifted_one, number_part}
+use Rattle.bits.proofs.Numbers.{shifted_one, number_part}
 use Rattle.bits.proofs.number_at.Goals as goal
-
-pub nonzero_rem-result : goal.nonzero_rem-result
-nonzero_rem-result c = let w = c.args.width in rw (shifted_one w 64 (omega arith)) (power_positive w)
 
 pub returns : goal.returns
 returns c =

@@ -4,7 +4,7 @@ use Prim.Native.Nat.{ℕ, ◌+◌, ◌-◌, ◌*◌, ◌/◌, ◌%◌, ◌^◌, 
 use native.Mathlib.Nat.{lt_of_lt_of_le}
 use native.Mathlib.Omega.{arith}
 use lib.ListN.{length, get_or, set, length-set}
-use lib.Pow.{shl_lt, shl_exact, shr_le, pow_mono}
+use lib.Pow.{shl_lt, shl_exact, pow_mono}
 use Rattle.bits.specs.Bits.{digits, put_bits}
 use Rattle.bits.proofs.Putting.{add_first, add_last, put_parts}
 use Rattle.bits.proofs.put_eight.Goals as goal
@@ -21,9 +21,6 @@ moved_below x r h l =
     (lt_of_lt_of_le (shl_lt {a = x} 8 (8 - r) (omega (arith, h))) (pow_mono {i = 8 + (8 - r)} {j = 16} (omega arith)))
 
 -- ** What the code asks for
-
-pub add_to_byte-requires : goal.add_to_byte-requires
-add_to_byte-requires c = let a = c.args in (omega arith, omega (arith, shr_le a.x (a.at % 8), c.requires))
 
 pub add_to_byte-requires-2 : goal.add_to_byte-requires-2
 add_to_byte-requires-2 c =

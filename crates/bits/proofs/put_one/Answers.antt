@@ -4,13 +4,9 @@ use mathlib.Core.Bool.{true}
 use mathlib.Core.List.{[], ◌∷◌}
 use Prim.Native.Nat.{ℕ, ◌+◌, ◌*◌, ◌/◌, ◌%◌}
 use native.Mathlib.Omega.{arith}
-use lib.Pow.{shr_le}
 use Rattle.bits.specs.Bits.{put_bits}
 use Rattle.bits.proofs.Putting.{put_zeros, add_one_bit}
 use Rattle.bits.proofs.put_one.Goals as goal
-
-pub add_to_byte-requires : goal.add_to_byte-requires
-add_to_byte-requires c = let a = c.args in (omega arith, omega (arith, shr_le 128 ((a.at + a.zeros) % 8)))
 
 pub returns : goal.returns
 returns c =

@@ -15,21 +15,6 @@ use Rattle.challenge.proofs.ascending.Goals as goal
 pub loop-k-init : goal.loop-k-init
 loop-k-init c = (omega arith, omega arith, all_none _)
 
-pub offset_bounds-challenge-k : goal.offset_bounds-challenge-k
-offset_bounds-challenge-k c = omega arith
-
-pub bounds-challenge-k : goal.bounds-challenge-k
-bounds-challenge-k c = omega arith
-
-pub overflow_sub-k : goal.overflow_sub-k
-overflow_sub-k c = omega arith
-
-pub offset_bounds-challenge-k-in-loop-k : goal.offset_bounds-challenge-k-in-loop-k
-offset_bounds-challenge-k-in-loop-k c = omega arith
-
-pub bounds-challenge-k-in-loop-k : goal.bounds-challenge-k-in-loop-k
-bounds-challenge-k-in-loop-k c = omega arith
-
 pub returns-then-challenge-k : goal.returns-then-challenge-k
 unfolding ascends
 returns-then-challenge-k c =
@@ -37,12 +22,6 @@ returns-then-challenge-k c =
     let challenge = c.args.challenge.now in
     let falls = le-ltb (get_or challenge (t.k - 1) 0) (get_or challenge t.k 0) (omega arith) in
     sym (all_broken (rises challenge) (t.k - 1) _ (omega arith) (compared challenge t.k t.invariant.0 ∙ falls))
-
-pub overflow_add-k : goal.overflow_add-k
-overflow_add-k c = omega arith
-
-pub loop-k-smaller : goal.loop-k-smaller
-loop-k-smaller c = omega arith
 
 pub loop-k-preserved : goal.loop-k-preserved
 loop-k-preserved c =

@@ -13,27 +13,12 @@ use Rattle.challenge.proofs.positions_below.Goals as goal
 pub loop-k-init : goal.loop-k-init
 loop-k-init c = (omega arith, all_none _)
 
-pub offset_bounds-challenge-k : goal.offset_bounds-challenge-k
-offset_bounds-challenge-k c = omega arith
-
-pub bounds-challenge-k : goal.bounds-challenge-k
-bounds-challenge-k c = omega arith
-
-pub overflow_cast-challenge : goal.overflow_cast-challenge
-overflow_cast-challenge c = omega (arith, c.shared_slice_known-1.given c.loop-k.k)
-
 pub returns-then-n-challenge : goal.returns-then-n-challenge
 unfolding positions_below
 returns-then-n-challenge c =
     let a = c.args in
     let k = c.loop-k.k in
     sym (all_broken (is_below a.n a.challenge.now) k _ (omega arith) (le-ltb (get_or a.challenge.now k 0) a.n (omega arith)))
-
-pub overflow_add-k : goal.overflow_add-k
-overflow_add-k c = omega arith
-
-pub loop-k-smaller : goal.loop-k-smaller
-loop-k-smaller c = omega arith
 
 pub loop-k-preserved : goal.loop-k-preserved
 loop-k-preserved c =

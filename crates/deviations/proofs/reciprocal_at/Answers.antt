@@ -22,8 +22,8 @@ unfolding reciprocal
 returns-in-271 c = rw c.in-271.is refl
 
 left_over : (deviation : ℕ) → is_deviation deviation ≡ true → deviation ≢ 107 → deviation ≢ 250 → deviation ≢ 271 → deviation ≡ 215
-left_over deviation h not-107 not-250 not-271 =
-    ⊎_elim (λ e. absurd (not-107 e)) (⊎_elim (λ e. e) (⊎_elim (λ e. absurd (not-250 e)) (λ e. absurd (not-271 e))))
+left_over deviation h not_107 not_250 not_271 =
+    ⊎_elim (λ e. absurd (not_107 e)) (⊎_elim (λ e. e) (⊎_elim (λ e. absurd (not_250 e)) (λ e. absurd (not_271 e))))
     (deviation_of deviation h)
 
 pub returns-in_default : goal.returns-in_default

@@ -17,23 +17,14 @@ loop-j-init c =
     let s = c.args in
     record { here = omega arith; evaluating = evaluating_starts s.table.now s.v; room = omega arith; same = refl; entries = refl }
 
-pub overflow_sub-j : goal.overflow_sub-j
-overflow_sub-j c = omega arith
-
 pub listed_word-entry-requires : goal.listed_word-entry-requires
 listed_word-entry-requires c =
     (omega (arith, table_length c.args.table.now c.requires.0), omega arith, omega arith, omega arith)
-
-pub overflow_add-place : goal.overflow_add-place
-overflow_add-place c = omega arith
 
 pub next_value-a-requires : goal.next_value-a-requires
 next_value-a-requires c =
     let asks = evaluating_asks c.requires.0 c.loop-j-test.true c.loop-j.invariant.evaluating in
     rw c.listed_word-entry.ensures.0 (asks.0, asks.1, c.requires.1)
-
-pub loop-j-smaller : goal.loop-j-smaller
-loop-j-smaller c = omega arith
 
 pub loop-j-preserved : goal.loop-j-preserved
 loop-j-preserved c =

@@ -10,9 +10,6 @@ pub loop-j-init : goal.loop-j-init
 loop-j-init c =
     rw (table_length c.args.table.now c.requires.0) (evaluating_starts c.args.table.now c.args.v)
 
-pub overflow_sub-j : goal.overflow_sub-j
-overflow_sub-j c = omega arith
-
 pub bounds-table-j : goal.bounds-table-j
 bounds-table-j c =
     omega (arith, table_length c.args.table.now c.requires.0, c.loop-j.invariant.count)
@@ -21,9 +18,6 @@ pub next_value-a-requires : goal.next_value-a-requires
 next_value-a-requires c =
     let asks = evaluating_asks c.requires.0 c.loop-j-test.true c.loop-j.invariant in
     (omega (arith, asks.0), asks.1, c.requires.1)
-
-pub loop-j-smaller : goal.loop-j-smaller
-loop-j-smaller c = omega arith
 
 pub loop-j-preserved : goal.loop-j-preserved
 loop-j-preserved c =

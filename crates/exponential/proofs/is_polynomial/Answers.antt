@@ -19,26 +19,11 @@ returns-then-table-ne-POLYNOMIAL_WORDS c =
     let table = c.args.table.now in
     not_polynomial table (λ e. c.if-table-ne-POLYNOMIAL_WORDS.true (table_length table e))
 
-pub offset_bounds-table-j : goal.offset_bounds-table-j
-offset_bounds-table-j c = omega arith
-
-pub bounds-table-j : goal.bounds-table-j
-bounds-table-j c = omega arith
-
-pub entry_at-requires : goal.entry_at-requires
-entry_at-requires c = omega arith
-
 pub returns-then-table-j : goal.returns-then-table-j
 returns-then-table-j c =
     let j = c.loop-j.j in
     let is_entry = table_at j (omega arith) ∙ sym c.entry_at.ensures in
     not_polynomial c.args.table.now (λ e. c.if-table-j.true (ap (λ (c : List ℕ). get_or c j 0) e ∙ is_entry))
-
-pub overflow_add-j : goal.overflow_add-j
-overflow_add-j c = omega arith
-
-pub loop-j-smaller : goal.loop-j-smaller
-loop-j-smaller c = omega arith
 
 pub loop-j-preserved : goal.loop-j-preserved
 loop-j-preserved c =

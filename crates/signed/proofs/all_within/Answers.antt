@@ -3,13 +3,10 @@
 use native.Mathlib.Omega.{arith}
 use lib.IntN.{pos}
 use lib.ListN.{get_or}
-use Rattle.signed.proofs.all_within.Invariants.{comparisons, low_fits, turn_more, turn_end}
+use Rattle.signed.proofs.all_within.Invariants.{comparisons, turn_more, turn_end}
 use Rattle.signed.proofs.all_within.Goals as goal
 
 -- ** What the code asks for
-
-pub overflow_sub-low : goal.overflow_sub-low
-overflow_sub-low c = low_fits c.args.bound c.requires
 
 pub loop-i-preserved : goal.loop-i-preserved
 loop-i-preserved c =

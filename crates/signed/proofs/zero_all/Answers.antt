@@ -5,7 +5,7 @@ use Prim.Native.Nat.{◌<◌}
 use native.Mathlib.Omega.{arith}
 use lib.IntN.{ℤ, pos}
 use lib.ListN.{length, set, length-set}
-use Rattle.lists.proofs.Filling.{fill_more, fill_all}
+use Rattle.lists.proofs.Filling.{fill_more}
 use Rattle.signed.proofs.zero_all.Goals as goal
 
 -- ** What the code asks for
@@ -17,6 +17,3 @@ loop-i-preserved c =
     let i = c.loop-i.i in
     let h : i < length d = omega arith in
     (omega arith, simp length-set inv.1, ap (λ (l : List ℤ). set l i (pos 0)) inv.2 ∙ fill_more i (pos 0) d h)
-
-pub returns : goal.returns
-returns c = c.loop-i.invariant.2 ∙ fill_all c.loop-i.i (pos 0) c.args.values.now (omega arith)

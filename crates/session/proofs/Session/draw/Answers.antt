@@ -54,7 +54,7 @@ sampled_leaves : (s : Session) (d : Draw) (r : ℕ) (sampled : Sampled) (drawn :
     → r ≡ reciprocal (divisor_at s.deviation)
     → after_draw drawn sampled.y sampled.list ≡ draw_left s d
 unfolding draw_left draw_served bits_of_draw exp_with
-sampled_leaves s d r sampled drawn h made e is-reciprocal = rw (made, e, is-reciprocal, eq-eqb (refusal_of_draw s d) 0 h)
+sampled_leaves s d r sampled drawn h made e is_reciprocal = rw (made, e, is_reciprocal, eq-eqb (refusal_of_draw s d) 0 h)
 
 pub returns : goal.returns
 unfolding refusal_of_draw
