@@ -1,5 +1,3 @@
 -- Laws on plain numbers that the proofs cite.
 pub mod Bits
-pub mod Scale
-pub mod Columns
 pub mod Order

@@ -1,13 +1,15 @@
 -- An attempt, from its words as they are read: its bit, its sample and its entries. Assumes nothing.
-use mathlib.Core.Path.{◌≡◌, refl, ◌∙◌}
+use mathlib.Core.Path.{◌≡◌, refl, ap, ◌∙◌}
 use mathlib.Core.Bool.{Bool, not, ◌&&◌}
 use mathlib.Core.List.{List, [], ◌∷◌, ◌++◌}
-use Prim.Native.Nat.{ℕ, ◌+◌, ◌*◌, ◌/◌, ◌%◌, ◌^◌}
+use Prim.Native.Nat.{ℕ, ◌+◌, ◌*◌, ◌/◌, ◌%◌, ◌^◌, ◌-◌, ◌≤◌}
 use native.Mathlib.Omega.{arith}
 use lib.Dec.{ltb, eqb}
-use lib.ListN.{length, set, get_or}
-use lib.Seq.{sets}
+use borrow.Rule.Slice.PartMut.{put_mid}
+use lib.ListN.{length, set, get_or, take, drop}
+use lib.Seq.{sets, length-sets}
 use Rattle.read_list.specs.Entries.{entry, places_up, places_down}
+use Rattle.read_list.proofs.InPart.{written_in_part}
 use Rattle.read_list.proofs.Written.{written_behind}
 use Rattle.base_sample.specs.BaseSample.{base_sample}
 use Rattle.attempt.specs.Attempt.{size, exponent, accepts, sample, draw_at, bit_at, sample_at, attempt_entries}
@@ -35,12 +37,20 @@ pub length_attempt : (t before : ℕ) → length (attempt_entries t before) ≡ 
 unfolding attempt_entries places_up places_down
 length_attempt t before = refl
 
-pub attempt_written : (l l₁ l₂ l₃ l₄ : List ℕ) (at t k : ℕ) → l₁ ≡ sets l at (places_up 2 (4 * t) 4)
-    → l₂ ≡ sets l₁ (at + 4) (places_up 3 0 20) → l₃ ≡ sets l₂ (at + 24) (places_down 4 21) → l₄ ≡ set l₃ (at + 45) (entry 5 k)
-    → l₄ ≡ sets l at (attempt_entries t k)
+-- they are written from the start of a list on: the words first, the others in the parts behind them
+pub attempt_written : (list l₁ part₂ part₃ : List ℕ) (last t k : ℕ) → 46 ≤ length list → l₁ ≡ sets list 0 (places_up 2 (4 * t) 4)
+    → part₂ ≡ sets (take (length l₁ - 4) (drop 4 l₁)) 0 (places_up 3 0 20)
+    → let l₂ = put_mid 4 (length l₁ - 4) l₁ part₂ in
+    part₃ ≡ sets (take (length l₂ - 24) (drop 24 l₂)) 0 (places_down 4 21) → last ≡ entry 5 k
+    → set (put_mid 24 (length l₂ - 24) l₂ part₃) 45 last ≡ sets list 0 (attempt_entries t k)
 unfolding attempt_entries places_up places_down
-attempt_written l l₁ l₂ l₃ l₄ at t k e₁ e₂ e₃ e₄ =
-    let last = entry 5 k ∷ [] in
-    let table = places_down 4 21 ++ last in
-    written_behind l at (at + 4) (places_up 2 (4 * t) 4) (places_up 3 0 20 ++ table) e₁
-    (written_behind l₁ (at + 4) (at + 24) (places_up 3 0 20) table e₂ (written_behind l₂ (at + 24) (at + 45) (places_down 4 21) last e₃ e₄ (omega arith)) (omega arith)) refl
+attempt_written list l₁ part₂ part₃ last t k h e₁ e₂ e₃ e₄ =
+    let l₂ = put_mid 4 (length l₁ - 4) l₁ part₂ in
+    let same₁ : length l₁ ≡ length list = ap length e₁ ∙ length-sets list 0 (places_up 2 (4 * t) 4) in
+    let w₂ : l₂ ≡ sets l₁ 4 (places_up 3 0 20) = written_in_part 4 (length l₁ - 4) l₁ (places_up 3 0 20) e₂ (omega arith) in
+    let same₂ : length l₂ ≡ length l₁ = ap length w₂ ∙ length-sets l₁ 4 (places_up 3 0 20) in
+    let w₃ : put_mid 24 (length l₂ - 24) l₂ part₃ ≡ sets l₂ 24 (places_down 4 21) = written_in_part 24 (length l₂ - 24) l₂ (places_down 4 21) e₃ (omega arith) in
+    let end = entry 5 k ∷ [] in
+    written_behind list 0 4 (places_up 2 (4 * t) 4) (places_up 3 0 20 ++ (places_down 4 21 ++ end)) e₁
+    (written_behind l₁ 4 24 (places_up 3 0 20) (places_down 4 21 ++ end) w₂
+    (written_behind l₂ 24 45 (places_down 4 21) end w₃ (ap (set (put_mid 24 (length l₂ - 24) l₂ part₃) 45) e₄) refl) refl) refl

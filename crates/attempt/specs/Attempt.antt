@@ -3,8 +3,7 @@ use Rattle.std.specs.Prelude.{◌≡◌, Bool, true, not, cond, ◌&&◌, List, 
 use Rattle.std.specs.Prelude.{◌/◌, ◌%◌, ◌^◌, ◌<◌, ltb, eqb, length, get_or, take, drop, ℤ, pos, neg_ℤ}
 use Rattle.arithmetic.specs.Words.{low62_of}
 use Rattle.read_list.specs.Entries.{entry, places_up, places_down}
-use Rattle.exponential.specs.Exponential.{polynomial, attempt_limit}
-use Rattle.base_sample.specs.BaseSample.{words_small, base_sample}
+use Rattle.base_sample.specs.BaseSample.{base_sample}
 
 -- ** Attempt, over x, the low bits b, the sign and u
 
@@ -79,15 +78,6 @@ abbrev pub AttemptByRule : Type 0
 AttemptByRule =
     (e : ℕ → ℕ) (cdt : List ℕ) (first second third fourth : ℕ) → let words = first ∷ second ∷ third ∷ fourth ∷ [] in
     ByRule e (base_sample cdt (first % 2 ^ 62 * 2 ^ 62 + second % 2 ^ 62)) third fourth (bit_at e cdt words 0) (sample_at cdt words 0)
-
--- ** What an attempt asks for
-
--- the tables and the number R for which an attempt is made
-pub record Tables (cdt polynomial_table : List ℕ) (r : ℕ) : Type 0 where
-  pub twenty : length cdt ≡ 20
-  pub small : words_small cdt ≡ true
-  pub is_polynomial_lem : polynomial_table ≡ polynomial
-  pub scales : attempt_limit * r < 2 ^ 84
 
 -- ** The read list
 

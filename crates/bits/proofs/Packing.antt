@@ -7,8 +7,10 @@ use native.Mathlib.Nat.{add-zero, add-suc, suc-add, zero-add, zero-div, mod-eq_o
 use native.Mathlib.Omega.{arith}
 use lib.Dec.{ltb, lit<}
 use borrow.Author.Tests.{ltb-true, ltb-false}
-use lib.ListN.{length, get_or, get_or-eq_default}
+use lib.ListN.{length, get_or, get_or-eq_default, drop}
+use Rattle.std.proofs.lemmas.List.{get_or-drop}
 use lib.Seq.{ext_get_or}
+use Rattle.std.specs.Int.{w64, from_be_bytes}
 use Rattle.bits.specs.Bits.{odd, number, bit_at, stream_of, bytes_for, bytes_from, packed}
 use Rattle.bits.proofs.Numbers.{number_below, number_split, number_bit, number_same, number_zero, zero_number}
 use Rattle.bits.proofs.Streams.{Holds, holds_at, holds_of, holds_digits, number_holds}
@@ -87,16 +89,30 @@ byte_more bytes k i small =
     let byte = ap (λ (x : ℕ). number s x 8) at ∙ byte_number bytes (k + i) small in
     ap (number s (8 * k)) wide ∙ number_split s (8 * k) (8 * i) 8 ∙ omega (arith, byte)
 
--- four bytes, as code works them out
-pub four_numbers : (bytes : List ℕ) (k : ℕ) → ((i : ℕ) → get_or bytes i 0 < 256)
-    → 256 * (256 * (256 * get_or bytes k 0 + get_or bytes (k + 1) 0) + get_or bytes (k + 2) 0) + get_or bytes (k + 3) 0
-    ≡ number (bit_at bytes) (8 * k) 32
-four_numbers bytes k small =
-    let one = byte_number bytes k (small k) in
-    let two = byte_more bytes k 1 (small (k + 1)) in
-    let three = byte_more bytes k 2 (small (k + 2)) in
-    let four = byte_more bytes k 3 (small (k + 3)) in
-    omega (arith, one, two, three, four)
+-- the first eight bytes, the high one first
+pub eight_numbers : (bytes eight : List ℕ) → ((i : ℕ) → get_or bytes i 0 < 256) → ((i : ℕ) → i < 8 → get_or eight i 0 ≡ get_or bytes i 0)
+    → from_be_bytes w64 eight ≡ number (bit_at bytes) 0 64
+eight_numbers bytes eight small same =
+    let first = byte_number bytes 0 (small 0) in
+    let more = λ (i : ℕ). byte_more bytes 0 i (small (0 + i)) in
+    grind (arith, first, more 1, more 2, more 3, more 4, more 5, more 6, more 7, same 0 (lit< tt), same 1 (lit< tt), same 2 (lit< tt), same 3 (lit< tt), same 4 (lit< tt), same 5 (lit< tt), same 6 (lit< tt), same 7 (lit< tt))
+
+-- bytes from byte k on
+pub number_drop : (bytes : List ℕ) (k w : ℕ) → number (bit_at (drop k bytes)) 0 w ≡ number (bit_at bytes) (8 * k) w
+unfolding bit_at
+number_drop bytes k w = number_same (bit_at (drop k bytes)) (bit_at bytes) 0 (8 * k) w same
+  where
+    same : (i : ℕ) → i < w → bit_at (drop k bytes) (0 + i) ≡ bit_at bytes (8 * k + i)
+    same i l =
+        let q : k + (0 + i) / 8 ≡ (8 * k + i) / 8 = omega arith in
+        let m : (0 + i) % 8 ≡ (8 * k + i) % 8 = omega arith in
+        rw (get_or-drop k bytes ((0 + i) / 8) 0) (ap₂ (λ (b s : ℕ). odd (get_or bytes b 0 / 2 ^ (7 - s))) q m)
+
+-- and there are only zeros behind them
+pub number_behind : (bytes : List ℕ) (k w : ℕ) → length bytes ≤ k → number (bit_at bytes) (8 * k) w ≡ 0
+number_behind bytes k w h = number_zero (bit_at bytes) (8 * k) w (λ i l. no_bit_behind bytes (8 * k + i) (omega arith))
+
+pub ruleset from_byte = (number_drop, number_behind)
 
 -- and bytes that have the bits of a list, and no others, are the list packed
 pub packed_of : (bytes : List ℕ) (bits : List Bool) → ((k : ℕ) → get_or bytes k 0 < 256) → length bytes ≡ bytes_for (length bits) → ((i : ℕ) → bit_at bytes i ≡ stream_of bits i) → packed bits ≡ bytes

@@ -255,9 +255,6 @@ module _ {A : Type 0} (form : A → List Bool) (items : List A) where
       pub ends : place + length (forms_from i) ≡ at + length (joined form items)
       pub all : put_bits now place (forms_from i) ≡ put_bits page at (joined form items)
 
-    pub putting_start : Putting page at 0
-    putting_start = record { long = refl; ends = refl; all = refl }
-
     pub putting_step : (d : A) {now next : List ℕ} {place end i : ℕ} → i < length items → next ≡ put_bits now place (form (get_or items i d)) → end ≡ place + length (form (get_or items i d))
         → Putting now place i → Putting next end (i + 1)
     putting_step d {now = now} {place = place} {end = end} {i = i} l e f p =

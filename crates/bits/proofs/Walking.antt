@@ -1,12 +1,13 @@
 -- A loop over items in a stream: i of count are behind it, and the others stand from a place on. Assumes nothing.
 use mathlib.Core.Path.{◌≡◌, refl, ap, ◌∙◌}
 use mathlib.Core.Bool.{Bool, true, false, ◌&&◌, and-eq-true_iff}
-use mathlib.Core.List.{List}
+use mathlib.Core.List.{List, ◌++◌, append-nil}
 use Prim.Native.Nat.{ℕ, zero, suc, ◌+◌, ◌-◌, ◌≤◌, ◌<◌}
+use native.Mathlib.Nat.{zero-add}
 use native.Mathlib.Numerals.{add-one}
 use native.Mathlib.Omega.{arith}
-use lib.ListN.{length, set, length-set}
-use lib.Seq.{sets}
+use lib.ListN.{length, set, drop, length-set, drop_of_length-le}
+use lib.Seq.{sets, sets-eq}
 use Rattle.bits.specs.Items.{items_at, behind, each_at}
 
 pub length_items : {A : Type 0} (item : ℕ → A) (next : ℕ → ℕ) (at count : ℕ) → length (items_at item next at count) ≡ count
@@ -21,18 +22,12 @@ none_left h = omega arith
 pub one_left : {i count : ℕ} → i < count → count - i ≡ suc (count - (i + 1))
 one_left h = omega arith
 
-pub all_left : (count : ℕ) → count - 0 ≡ count
-all_left count = omega arith
-
 module _ (next : ℕ → ℕ) (at count : ℕ) where
   -- ** The place behind the items
 
   pub record Walked (place i : ℕ) : Type 0 where
     pub within : i ≤ count
     pub end : behind next place (count - i) ≡ behind next at count
-
-  pub walk_start : Walked at 0
-  walk_start = record { within = omega arith; end = rw (all_left count) }
 
   pub walk_step : {place i : ℕ} → i < count → Walked place i → Walked (next place) (i + 1)
   unfolding behind
@@ -49,18 +44,23 @@ module _ (next : ℕ → ℕ) (at count : ℕ) where
       pub long : length now ≡ length list
       pub all : sets now i (items_at item next place (count - i)) ≡ sets list 0 (items_at item next at count)
 
-    pub write_start : Written list at 0
-    write_start = record { long = refl; all = rw (all_left count) }
-
     pub write_step : {now : List A} {place i : ℕ} → i < count → Written now place i → Written (set now i (item place)) (next place) (i + 1)
     unfolding items_at
     write_step {now = now} {i = i} l w =
         let e : count - i ≡ suc (count - suc i) = omega arith in
         record { long = length-set now i _ ∙ w.long; all = rw (add-one i) (rw e at w.all) }
 
-    pub write_end : {now : List A} {place i : ℕ} → count ≤ i → Written now place i → now ≡ sets list 0 (items_at item next at count)
+    -- the list has as many places
+    pub write_end : {now : List A} {place i : ℕ} → count ≤ i → count ≡ length list → Written now place i → now ≡ items_at item next at count
     unfolding items_at
-    write_end {i = i} l w = rw (none_left {i = i} l) at w.all
+    write_end {i = i} l e w =
+        let items = items_at item next at count in
+        let long : length items ≡ length list = length_items item next at count ∙ e in
+        rw (none_left {i = i} l) at w.all
+        ∙ sets-eq items list 0 (omega (arith, long))
+        ∙ ap (λ (k : ℕ). items ++ drop k list) (zero-add (length items) ∙ long)
+        ∙ ap (λ (rest : List A). items ++ rest) (drop_of_length-le list {i = length list} (omega arith))
+        ∙ append-nil items
 
   -- ** Tests made one after the other, until one fails
 
@@ -68,9 +68,6 @@ module _ (next : ℕ → ℕ) (at count : ℕ) where
     -- those before have passed
     pub record Passed (place i : ℕ) : Type 0 where
       pub rest : each_at test next place (count - i) ≡ each_at test next at count
-
-    pub pass_start : Passed at 0
-    pass_start = record { rest = rw (all_left count) }
 
     -- the next one, and those behind it
     next_tested : {place i : ℕ} → i < count → Passed place i → (test place && each_at test next (next place) (count - (i + 1))) ≡ each_at test next at count

@@ -1,70 +1,50 @@
 // Bits in bytes: each byte's highest bit first, and zeros behind the bytes. Numbers are read and put by whole bytes, and not bit by bit.
 #![tactic(auto)]
 
-ghost use Rattle.std.specs.Prelude.{◌≡◌, true, false, [], ◌∷◌, ◌++◌, ◌+◌, ◌*◌, ◌/◌, ◌%◌, ◌^◌, ◌≤◌, ◌<◌, length, get_or, set, replicate};
+ghost use Rattle.std.specs.Prelude.{◌≡◌, ℕ, true, false, [], ◌∷◌, ◌++◌, ◌+◌, ◌*◌, ◌/◌, ◌%◌, ◌^◌, ◌≤◌, ◌<◌, length, get_or, set, replicate};
 ghost use Rattle.bits.specs.Bits.{digits, number, bit_at, put_bits};
 
 // Bit i of bytes.
 pub fn bit_at(bytes: &[u8], i: usize) -> bool
     ensures { result ≡ bit_at bytes.now i }
 {
-    let k = i / 8;
-    if bytes.len() <= k {
-        return false;
-    }
-    (bytes[k] >> (7 - i % 8)) % 2 == 1
+    (byte_at(bytes, i / 8) >> (7 - i % 8)) % 2 == 1
 }
 
 // Byte k, and zeros behind the bytes.
 fn byte_at(bytes: &[u8], k: usize) -> u8
     ensures { result ≡ get_or bytes.now k 0 }
 {
-    if bytes.len() <= k {
-        return 0;
+    bytes.get(k).copied().unwrap_or(0)
+}
+
+// The first eight bytes, with zeros behind the bytes.
+fn padded(bytes: &[u8]) -> [u8; 8]
+    ensures { (i : ℕ) → i < 8 → get_or result i 0 ≡ get_or bytes.now i 0 }
+{
+    let mut eight = [0; 8];
+    for (i, byte) in eight.iter_mut().enumerate() {
+        *byte = byte_at(bytes, i);
     }
-    bytes[k]
+    eight
 }
 
-// The number of four bytes from byte k on, all of which are there.
-fn four_bytes(bytes: &[u8], k: usize) -> u64
-    requires { k + 4 ≤ length bytes.now }
-    ensures { result ≡ number (bit_at bytes.now) (8 * k) 32 }
+// The number of the first eight bytes, with zeros behind the bytes.
+fn first_eight(bytes: &[u8]) -> u64
+    ensures { result ≡ number (bit_at bytes.now) 0 64 }
 {
-    256 * (256 * (256 * (bytes[k] as u64) + bytes[k + 1] as u64) + bytes[k + 2] as u64)
-        + bytes[k + 3] as u64
-}
-
-// The number of eight. In this form, by halves, the compiler makes one load of it.
-fn eight_bytes(bytes: &[u8], k: usize) -> u64
-    requires { k + 8 ≤ length bytes.now }
-    ensures { result ≡ number (bit_at bytes.now) (8 * k) 64 }
-{
-    4294967296 * four_bytes(bytes, k) + four_bytes(bytes, k + 4)
-}
-
-// Eight bytes too, where some of them may be behind the bytes.
-fn eight_bytes_or_zeros(bytes: &[u8], k: usize) -> u64
-    requires { k < 2 ^ 32 }
-    ensures { result ≡ number (bit_at bytes.now) (8 * k) 64 }
-{
-    let mut x: u64 = 0;
-    let mut i: usize = 0;
-    while i < 8 {
-        x = 256 * x + byte_at(bytes, k + i) as u64;
-        i += 1;
+    match bytes.first_chunk::<8>() {
+        Some(eight) => u64::from_be_bytes(*eight),
+        None => u64::from_be_bytes(padded(bytes)),
     }
-    x
 }
 
 // The number of eight bytes from byte k on, with zeros behind the bytes.
+#[tactic(auto, using(std::proofs::lemmas::Grind::common_steps, crate::proofs::Packing::from_byte))]
 fn window(bytes: &[u8], k: usize) -> u64
-    requires { k < 2 ^ 32 }
     ensures { result ≡ number (bit_at bytes.now) (8 * k) 64 }
 {
-    if k + 8 <= bytes.len() {
-        return eight_bytes(bytes, k);
-    }
-    eight_bytes_or_zeros(bytes, k)
+    bytes.get(k..).map_or(0, first_eight)
 }
 
 // The number whose bits, so many, stand in bytes from a place on.
@@ -85,6 +65,7 @@ fn add_to_byte(page: &mut [u8], k: usize, x: u32)
 }
 
 // Puts a byte to byte k, where zeros were.
+#[tactic(auto, using(crate::proofs::Putting::add_all))]
 pub fn put_byte(page: &mut [u8], k: usize, x: u32)
     requires { k < length page.old }
     ensures { page.new ≡ put_bits page.old (8 * k) (digits 8 x) }
@@ -92,7 +73,7 @@ pub fn put_byte(page: &mut [u8], k: usize, x: u32)
     add_to_byte(page, k, x % 256);
 }
 
-// Puts two bytes, the high one first, from byte k on.
+// Puts two bytes, the high one first, from byte k on. Each is added to what stands there, so `to_be_bytes` would be no plainer.
 pub fn put_two_bytes(page: &mut [u8], k: usize, x: u32)
     requires { k + 1 < length page.old }
     ensures { page.new ≡ put_bits page.old (8 * k) (digits 16 x) }

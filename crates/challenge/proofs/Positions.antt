@@ -1,12 +1,14 @@
 -- What is known of positions that may be a challenge. Assumes nothing.
-use mathlib.Core.Path.{◌≡◌}
-use mathlib.Core.Bool.{true}
+use mathlib.Core.Path.{◌≡◌, refl}
+use mathlib.Core.Bool.{Bool, true, and_comm}
 use mathlib.Core.List.{List, []}
 use Prim.Native.Nat.{ℕ, suc, ◌-◌, ◌≤◌, ◌<◌}
 use native.Mathlib.Omega.{arith}
 use lib.Dec.{leb, ltb}
 use lib.ListN.{length, get_or}
 use borrow.Author.Tests.{leb-true, le-leb, ltb-true}
+use Rattle.std.specs.Bool.{Decides}
+use Rattle.std.proofs.lemmas.Bool.Decides.{Decides-below_and}
 use Rattle.checks.specs.Checks.{all_below}
 use Rattle.checks.proofs.JoinedTests.{both_true}
 use Rattle.checks.proofs.AllBelow.{all_at}
@@ -49,3 +51,10 @@ unfolding ascends
 position_rises challenge k rising h =
     ltb-true (get_or challenge k 0) (get_or challenge (suc k) 0)
     (all_at (λ (j : ℕ). ltb (get_or challenge j 0) (get_or challenge (suc j) 0)) k (length challenge - 1) (omega arith) rising)
+
+-- ** Tests at every number below another, by what each of them decides
+
+pub all_decides : (test : ℕ → Bool) (P : ℕ → Type 0) (n : ℕ) → ((k : ℕ) → Decides (test k) (P k))
+    → Decides (all_below test n) ((k : ℕ) → k < n → P k)
+unfolding all_below
+all_decides test P n each = Decides-below_and test P (all_below test) each refl (λ m. and_comm (all_below test m) (test m)) n

@@ -18,31 +18,18 @@ pub fn length_fits(n: usize, count: usize) -> bool
 fn positions_below(n: usize, challenge: &[u32]) -> bool
     ensures { result ≡ positions_below n challenge.now }
 {
-    let mut k: usize = 0;
-    while k < challenge.len() {
-        if n <= challenge[k] as usize {
-            return false;
-        }
-        k += 1;
-    }
-    true
+    challenge.iter().all(|&position| (position as usize) < n)
 }
 
 // Whether the positions are strictly ascending.
 fn ascending(challenge: &[u32]) -> bool
     ensures { result ≡ ascends challenge.now }
 {
-    let mut k: usize = 1;
-    while k < challenge.len() {
-        if challenge[k] <= challenge[k - 1] {
-            return false;
-        }
-        k += 1;
-    }
-    true
+    challenge.windows(2).all(|pair| pair[0] < pair[1])
 }
 
 // Whether numbers can be the positions of a challenge at degree n; there may be none.
+#[tactic(auto, unfolding(crate::specs::Challenge::are_positions))]
 pub fn are_positions(n: usize, challenge: &[u32]) -> bool
     ensures { result ≡ are_positions n challenge.now }
 {
@@ -54,6 +41,7 @@ pub fn are_positions(n: usize, challenge: &[u32]) -> bool
 }
 
 // Whether they are a challenge: there is at least one.
+#[tactic(auto, unfolding(crate::specs::Challenge::is_challenge))]
 pub fn is_challenge(n: usize, challenge: &[u32]) -> bool
     ensures { result ≡ is_challenge n challenge.now }
 {

@@ -1,12 +1,12 @@
 -- A half of the challenge product, as its loop makes it: output by output. Assumes nothing.
-use mathlib.Core.Path.{◌≡◌, refl}
+use mathlib.Core.Path.{◌≡◌}
 use mathlib.Core.List.{List}
 use Prim.Native.Nat.{ℕ, suc, ◌+◌, ◌-◌, ◌*◌, ◌≤◌, ◌<◌}
-use native.Mathlib.Nat.{add-zero, add-suc, sub-zero}
+use native.Mathlib.Nat.{add-suc}
 use native.Mathlib.Numerals.{add-one}
 use native.Mathlib.Omega.{arith}
-use lib.ListN.{length, set, length-set}
-use lib.Seq.{sets, length-sets}
+use lib.ListN.{length, set}
+use lib.Seq.{sets}
 use lib.IntN.{ℤ, nat_abs}
 use Rattle.signed.specs.Vectors.{square_sum}
 use Rattle.read_list.proofs.Written.{sets_sets}
@@ -14,31 +14,16 @@ use Rattle.challenge_product.proofs.ProductSizes.{length_output_entries}
 use Rattle.challenge_product.specs.Product.{output_at, outputs_from, output_entries, output_entries_from}
 
 -- after i outputs: what is written, summed and listed, and what the others give, are the half's
-pub record Halved (key : List ℤ) (n base : ℕ) (challenge : List ℕ) (z₀ : List ℤ) (list₀ : List ℕ) (at : ℕ)
-    (z : List ℤ) (list : List ℕ) (squares i place : ℕ) : Type 0 where
+pub record Halved (key : List ℤ) (n base : ℕ) (challenge : List ℕ) (z₀ : List ℤ) (list₀ : List ℕ)
+    (z : List ℤ) (list : List ℕ) (squares i : ℕ) : Type 0 where
   pub turns : i ≤ n
-  pub z_size : length z ≡ length z₀
-  pub list_size : length list ≡ length list₀
-  pub place_is : place ≡ at + i * length challenge
   pub sum : squares + square_sum (outputs_from key n base challenge i (n - i)) ≡ square_sum (outputs_from key n base challenge 0 n)
   pub filled : sets z (base + i) (outputs_from key n base challenge i (n - i)) ≡ sets z₀ base (outputs_from key n base challenge 0 n)
-  pub written : sets list place (output_entries_from n base challenge i (n - i)) ≡ sets list₀ at (output_entries_from n base challenge 0 n)
+  pub written : sets list (i * length challenge) (output_entries_from n base challenge i (n - i)) ≡ sets list₀ 0 (output_entries_from n base challenge 0 n)
 
-pub half_start : (key : List ℤ) (n base : ℕ) (challenge : List ℕ) (z : List ℤ) (list : List ℕ) (at : ℕ)
-    → Halved key n base challenge z list at z list 0 0 at
-half_start key n base challenge z list at = record {
-  turns = omega arith;
-  z_size = refl;
-  list_size = refl;
-  place_is = omega arith;
-  sum = rw (sub-zero n) (omega arith);
-  filled = rw (sub-zero n, add-zero base);
-  written = rw (sub-zero n);
-}
-
-module _ {key : List ℤ} {n base : ℕ} {challenge : List ℕ} {z₀ : List ℤ} {list₀ : List ℕ} {at : ℕ}
-    {z : List ℤ} {list : List ℕ} {squares i place : ℕ}
-    (s : Halved key n base challenge z₀ list₀ at z list squares i place) where
+module _ {key : List ℤ} {n base : ℕ} {challenge : List ℕ} {z₀ : List ℤ} {list₀ : List ℕ}
+    {z : List ℤ} {list : List ℕ} {squares i : ℕ}
+    (s : Halved key n base challenge z₀ list₀ z list squares i) where
   -- the sum so far is no more than the whole
   pub square_fits : i < n
       → squares + nat_abs (output_at key n base i challenge) * nat_abs (output_at key n base i challenge)
@@ -50,21 +35,17 @@ module _ {key : List ℤ} {n base : ℕ} {challenge : List ℕ} {z₀ : List ℤ
 
   pub half_more : {z' : List ℤ} {list' : List ℕ} {squares' : ℕ} → i < n
       → z' ≡ set z (base + i) (output_at key n base i challenge)
-      → list' ≡ sets list place (output_entries n base i challenge)
+      → list' ≡ sets list (i * length challenge) (output_entries n base i challenge)
       → squares' ≡ squares + nat_abs (output_at key n base i challenge) * nat_abs (output_at key n base i challenge)
-      → Halved key n base challenge z₀ list₀ at z' list' squares' (i + 1) (place + length challenge)
+      → Halved key n base challenge z₀ list₀ z' list' squares' (i + 1)
   unfolding outputs_from output_entries_from square_sum
   half_more h ez el es =
       let one : n - i ≡ suc (n - suc i) = omega arith in
       let entries = output_entries n base i challenge in
-      let next = place + length challenge in
       let others = output_entries_from n base challenge (suc i) (n - suc i) in
-      let behind = sets_sets list place next entries others (omega (arith, length_output_entries n base i challenge)) in
+      let behind = sets_sets list (i * length challenge) (suc i * length challenge) entries others (omega (arith, length_output_entries n base i challenge)) in
       record {
         turns = omega arith;
-        z_size = rw (ez, length-set) s.z_size;
-        list_size = rw (el, length-sets) s.list_size;
-        place_is = omega (arith, s.place_is);
         sum = rw (es, add-one i) (omega (arith, rw one at s.sum));
         filled = rw (ez, add-one i, add-suc base i) (rw one at s.filled);
         written = rw (el, add-one i, behind) (rw one at s.written);
@@ -73,7 +54,7 @@ module _ {key : List ℤ} {n base : ℕ} {challenge : List ℕ} {z₀ : List ℤ
   pub half_end : n ≤ i
       → (squares ≡ square_sum (outputs_from key n base challenge 0 n))
       × ((z ≡ sets z₀ base (outputs_from key n base challenge 0 n))
-      × (list ≡ sets list₀ at (output_entries_from n base challenge 0 n)))
+      × (list ≡ sets list₀ 0 (output_entries_from n base challenge 0 n)))
   unfolding outputs_from output_entries_from square_sum
   half_end h =
       let none : n - i ≡ 0 = omega arith in

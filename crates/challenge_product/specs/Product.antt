@@ -1,10 +1,9 @@
 -- The challenge product of document 01, modulo X^n + 1, and the entries of its reads. A half of the key is told by its base, where it
 -- starts: s1 at 0 and s2 at n. Assumes nothing.
-use Rattle.std.specs.Prelude.{◌≡◌, true, cond, List, [], ◌∷◌, ◌++◌, ℕ, zero, suc, ◌+◌}
-use Rattle.std.specs.Prelude.{◌-◌, ◌*◌, ◌≤◌, leb, length, get_or, ℤ, pos, neg_ℤ, ◌+ℤ◌}
+use Rattle.std.specs.Prelude.{cond, List, [], ◌∷◌, ◌++◌, ℕ, zero, suc, ◌+◌}
+use Rattle.std.specs.Prelude.{◌-◌, ◌*◌, leb, get_or, ℤ, pos, neg_ℤ, ◌+ℤ◌}
 use Rattle.read_list.specs.Entries.{entry}
-use Rattle.signed.specs.Vectors.{all_within}
-use Rattle.challenge.specs.Challenge.{most_positions, positions_below}
+use Rattle.challenge.specs.Challenge.{most_positions}
 
 -- ** The product
 
@@ -36,14 +35,6 @@ key_bound = 7
 
 abbrev pub output_bound : ℕ
 output_bound = most_positions * key_bound
-
--- what a product asks for: a key of 2n small values, and not too many positions, each below n
-pub record Factors (key : List ℤ) (n : ℕ) (challenge : List ℕ) : Type 0 where
-  pub degree : n ≤ 1024
-  pub both : length key ≡ 2 * n
-  pub small : all_within key_bound key ≡ true
-  pub few : length challenge ≤ most_positions
-  pub below : positions_below n challenge ≡ true
 
 -- ** The read list
 

@@ -1,124 +1,95 @@
 // The product of a challenge with the key, modulo X^n + 1. Branches may depend on the challenge, and none on a key value.
 #![tactic(auto)]
 
-ghost use Rattle.std.specs.Prelude.{◌≡◌, true, ◌+◌, ◌*◌, ◌≤◌, ◌<◌, length, set};
+ghost use Rattle.std.specs.Prelude.{◌≡◌, true, ◌+◌, ◌*◌, ◌≤◌, ◌<◌, length};
 ghost use Rattle.std.proofs.lemmas.List.Edits.{sets};
 ghost use Rattle.signed.specs.Vectors.{all_within, square_sum};
 ghost use Rattle.read_list.specs.Entries.{entry};
-ghost use Rattle.challenge_product.specs.Product.{key_bound, index_of, term_at, output_at, outputs_from, product, Factors};
+ghost use Rattle.challenge_product.specs.Product.{key_bound, index_of, term_at, output_at, outputs_from, product};
+ghost use Rattle.challenge.specs.Challenge.{most_positions, positions_below};
 ghost use Rattle.challenge_product.specs.Product.{output_entries, output_entries_from, product_entries};
 
 // The largest size of a key value.
 pub const KEY_BOUND: u32 = 7;
 
-// What the position c adds to output i of the half that starts at `base`. The read of the key is listed at the index `at` of a list.
-fn term_at(
-    key: &[i32],
-    n: usize,
-    base: usize,
-    i: usize,
-    c: usize,
-    list: &mut [u32],
-    at: usize,
-) -> i32
-    requires { (length key.now ≡ 2 * n)
-        × (all_within key_bound key.now ≡ true)
-        × (n ≤ 1024)
-        × (base ≤ n)
-        × (i < n)
-        × (c < n)
-        × (at < length list.old) }
-    ensures { (result ≡ term_at key.now n base i c)
-        × (list.new ≡ set list.old at (entry 8 (base + index_of n i c))) }
-{
-    if c <= i {
-        return read_list::listed_value(key, read_list::KEY, base + (i - c), list, at);
-    }
-    let value = read_list::listed_value(key, read_list::KEY, base + (i + n - c), list, at);
-    0 - value
+// A key and a challenge, by which it is multiplied.
+#[derive(Clone, Copy)]
+pub struct Factors<'k, 'c> {
+    pub key: &'k [i32],
+    pub challenge: &'c [u32],
+    pub degree: usize,
+    ghost low: { degree ≤ 1024 },
+    ghost both: { length key.now ≡ 2 * degree },
+    ghost small: { all_within key_bound key.now ≡ true },
+    ghost few: { length challenge.now ≤ most_positions },
+    ghost below: { positions_below degree challenge.now ≡ true },
 }
 
-// Output i of the half that starts at `base`. The reads of the key are listed from the index `at` of a list on.
-fn output_at(
-    key: &[i32],
-    n: usize,
-    base: usize,
-    i: usize,
-    challenge: &[u32],
-    list: &mut [u32],
-    at: usize,
-) -> i32
-    requires factors { Factors key.now n challenge.now }
-    requires in_bounds { (base ≤ n) × (i < n) × (at + length challenge.now ≤ length list.old) }
-    ensures { (result ≡ output_at key.now n base i challenge.now)
-        × (list.new ≡ sets list.old at (output_entries n base i challenge.now)) }
-{
-    let mut sum: i32 = 0;
-    let mut k: usize = 0;
-    while k < challenge.len() {
-        let c = challenge[k] as usize;
-        let term = term_at(key, n, base, i, c, list, at + k);
-        sum = signed::plus(sum, term);
-        k += 1;
+impl Factors<'_, '_> {
+    // The challenge product, written to z, half by half. The reads of the key are listed from the start of a list on, and the rest of the
+    // list is unchanged. Gives the sum of squares A.
+    pub fn product_listed(self, z: &mut [i32], list: &mut [u32]) -> u64
+        requires { (length z.old ≡ 2 * self.degree)
+            × (2 * self.degree * length self.challenge.now ≤ length list.old) }
+        ensures value { result ≡ square_sum (product self.entry.key.now self.entry.degree self.entry.challenge.now) }
+        ensures z_after { z.new ≡ product self.entry.key.now self.entry.degree self.entry.challenge.now }
+        ensures list_after { list.new ≡ sets list.old 0 (product_entries self.entry.degree self.entry.challenge.now) }
+    {
+        let first = self.half(0, z, list);
+        let at = self.degree * self.challenge.len();
+        let second = self.half(self.degree, z, &mut list[at..]);
+        first + second
     }
-    sum
-}
 
-// The outputs of the half that starts at `base`, written to the same place in z. Gives their sum of squares.
-fn half(
-    key: &[i32],
-    n: usize,
-    base: usize,
-    challenge: &[u32],
-    z: &mut [i32],
-    list: &mut [u32],
-    at: usize,
-) -> u64
-    requires factors { Factors key.now n challenge.now }
-    requires in_bounds { (base ≤ n)
-        × (length z.old ≡ 2 * n)
-        × (at + n * length challenge.now ≤ length list.old) }
-    ensures value { result ≡ square_sum (outputs_from key.now n base challenge.now 0 n) }
-    ensures z_after { z.new
-        ≡ sets z.old base (outputs_from key.now n base challenge.now 0 n) }
-    ensures list_after { list.new
-        ≡ sets list.old at (output_entries_from n base challenge.now 0 n) }
-{
-    let mut squares: u64 = 0;
-    let mut i: usize = 0;
-    let mut place = at;
-    while i < n {
-        let output = output_at(key, n, base, i, challenge, list, place);
-        z[base + i] = output;
-        squares += signed::square(output);
-        place += challenge.len();
-        i += 1;
+    // The outputs of the half that starts at `base`, written to the same place in z. The reads of the key are listed from the start of a
+    // list on, and the rest of the list is unchanged. Gives their sum of squares. It is not inlined: of two copies of its loops in a
+    // response, each reads its arguments from the stack at every position.
+    #[inline(never)]
+    fn half(self, base: usize, z: &mut [i32], list: &mut [u32]) -> u64
+        requires { (base ≤ self.degree)
+            × (length z.old ≡ 2 * self.degree)
+            × (self.degree * length self.challenge.now ≤ length list.old) }
+        ensures value { result
+            ≡ square_sum (outputs_from self.entry.key.now self.entry.degree base self.entry.challenge.now 0 self.entry.degree) }
+        ensures z_after { z.new
+            ≡ sets z.old base (outputs_from self.entry.key.now self.entry.degree base self.entry.challenge.now 0 self.entry.degree) }
+        ensures list_after { list.new
+            ≡ sets list.old 0 (output_entries_from self.entry.degree base self.entry.challenge.now 0 self.entry.degree) }
+    {
+        let mut squares: u64 = 0;
+        for i in 0..self.degree {
+            let output = self.output_at(base, i, &mut list[i * self.challenge.len()..]);
+            z[base + i] = output;
+            squares += signed::square(output);
+        }
+        squares
     }
-    squares
-}
 
-// The challenge product, written to z. The reads of the key are listed from the index `at` of a list on. Gives the sum of squares A.
-pub fn product_listed(
-    key: &[i32],
-    n: usize,
-    challenge: &[u32],
-    z: &mut [i32],
-    list: &mut [u32],
-    at: usize,
-) -> u64
-    requires factors { Factors key.now n challenge.now }
-    requires in_bounds { (length z.old ≡ 2 * n) × (at + 2 * n * length challenge.now ≤ length list.old) }
-    ensures value { result ≡ square_sum (product key.now n challenge.now) }
-    ensures z_after { z.new ≡ product key.now n challenge.now }
-    ensures list_after { list.new ≡ sets list.old at (product_entries n challenge.now) }
-{
-    let mut squares: u64 = 0;
-    let mut base: usize = 0;
-    let mut place = at;
-    while base < 2 * n {
-        squares += half(key, n, base, challenge, z, list, place);
-        place += n * challenge.len();
-        base += n;
+    // Output i of the half that starts at `base`. The reads of the key are listed from the start of a list on, and the rest of the list is
+    // unchanged.
+    fn output_at(self, base: usize, i: usize, list: &mut [u32]) -> i32
+        requires { (base ≤ self.degree) × (i < self.degree) × (length self.challenge.now ≤ length list.old) }
+        ensures { (result ≡ output_at self.entry.key.now self.entry.degree base i self.entry.challenge.now)
+            × (list.new ≡ sets list.old 0 (output_entries self.entry.degree base i self.entry.challenge.now)) }
+    {
+        let mut sum: i32 = 0;
+        for (k, c) in self.challenge.iter().enumerate() {
+            let term = self.term_at(base, i, *c as usize, &mut list[k]);
+            sum = signed::plus(sum, term);
+        }
+        sum
     }
-    squares
+
+    // What the position c adds to output i of the half that starts at `base`. The read of the key is listed.
+    fn term_at(self, base: usize, i: usize, c: usize, to: &mut u32) -> i32
+        requires { (base ≤ self.degree) × (i < self.degree) × (c < self.degree) }
+        ensures { (result ≡ term_at self.entry.key.now self.entry.degree base i c)
+            × (to.new ≡ entry 8 (base + index_of self.entry.degree i c)) }
+    {
+        if c <= i {
+            return read_list::listed(self.key, read_list::KEY, base + (i - c), to);
+        }
+        let place = base + (i + self.degree - c);
+        -read_list::listed(self.key, read_list::KEY, place, to)
+    }
 }

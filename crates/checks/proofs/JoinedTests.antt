@@ -3,9 +3,8 @@ use mathlib.Core.Path.{◌≡◌, refl, sym, ◌∙◌}
 use mathlib.Core.Bool.{Bool, true, false, not, ◌&&◌, ◌||◌, and-eq-true_iff}
 use mathlib.Core.List.{List, [], ◌∷◌}
 use Prim.Native.Nat.{ℕ}
-use native.Mathlib.Omega.{arith}
-use lib.Dec.{leb, ltb, eqb}
-use borrow.Author.Tests.{ltb-true, ltb-false, lt-leb, le-leb, eq-eqb, ne_eqb}
+use lib.Dec.{leb, ltb}
+use borrow.Author.Tests.{ltb-true, ltb-false, lt-leb, le-leb}
 
 -- ** One test
 
@@ -23,14 +22,6 @@ below_not_above a b = by (ltb a b) refl
     by : (t : Bool) → ltb a b ≡ t → t ≡ not (leb b a)
     by true e = rw (lt-leb b a (ltb-true a b e))
     by false e = rw (le-leb b a (ltb-false a b e))
-
--- what code tests by `!= 0`, as the definitions have it: by `ltb`
-pub some_not_none : (count : ℕ) → not (eqb count 0) ≡ ltb 0 count
-some_not_none count = by (ltb 0 count) refl
-  where
-    by : (t : Bool) → ltb 0 count ≡ t → not (eqb count 0) ≡ t
-    by true e = rw (ne_eqb count 0 (λ z. omega (arith, z, ltb-true 0 count e)))
-    by false e = rw (eq-eqb count 0 (omega (arith, ltb-false 0 count e)))
 
 -- ** Two tests
 

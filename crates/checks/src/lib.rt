@@ -8,8 +8,5 @@ ghost use Rattle.checks.specs.Checks.{is_degree};
 pub fn is_degree(n: usize) -> bool
     ensures { result ≡ is_degree n }
 {
-    match n {
-        4 | 8 | 16 | 32 | 64 | 128 | 256 | 512 | 1024 => true,
-        _ => false,
-    }
+    matches!(n, 4 | 8 | 16 | 32 | 64 | 128 | 256 | 512 | 1024)
 }

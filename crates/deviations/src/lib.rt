@@ -1,4 +1,5 @@
-// The deviations of noise, by request S-8. A session's is public, and so is all that hangs on it.
+// The deviations of noise, by request S-8, as the numbers that a session holds for C. A session's is public, and so is all that hangs on
+// it.
 #![tactic(auto)]
 
 ghost use Rattle.std.specs.Prelude.{◌≡◌, true};
@@ -19,10 +20,7 @@ const RECIPROCAL_271: u64 = 2057648009311265462;
 pub fn is_deviation(deviation: u64) -> bool
     ensures { result ≡ is_deviation deviation }
 {
-    match deviation {
-        107 | 215 | 250 | 271 => true,
-        _ => false,
-    }
+    matches!(deviation, 107 | 215 | 250 | 271)
 }
 
 // R at a deviation, looked up: no code divides.

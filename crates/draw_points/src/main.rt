@@ -4,277 +4,276 @@
 // is not written is seen. The files stdin and stdout beside src/ are written by points.py, another program.
 #![tactic(auto)]
 
-ghost use Rattle.std.specs.Prelude.{◌≡◌, ◌^◌, ◌<◌, ◌≤◌, length, IfOk};
-
 use session::{DrawAnswer, Drawn, Opened, Session};
-use std::io;
 use std::io::{BufReader, BufWriter, Read, Write};
+use std::{array, fmt, io};
 
-// A row has 23 columns, each of a byte that sets it off and 16 hexadecimal digits. After a row with a CDT table and one with a polynomial
+// The columns of a row, each of a byte that sets it off and 16 hexadecimal digits. After a row with a CDT table and one with a polynomial
 // table come draws over them, as many as the last column of the CDT table's row says.
-const COUNT: usize = 22;
+const COLUMNS: usize = 23;
+
+// The value of a digit: those from a on have bit 6, and their low four bits start at 1.
+fn digit(byte: u8) -> u64 {
+    u64::from(byte % 16 + byte / 64 * 9)
+}
+
+// The next column. The byte before its digits is shifted out by them, and what stdin does not have any more counts as zero bytes.
+fn column<R: Read>(input: &mut R) -> io::Result<u64> {
+    let mut text = [0u8; 17];
+    input.chain(io::repeat(0)).read_exact(&mut text)?;
+    Ok(text.iter().fold(0, |n, byte| n << 4 | digit(*byte)))
+}
+
+// The next columns, so many.
+fn columns<R: Read, const N: usize>(input: &mut R) -> io::Result<[u64; N]> {
+    let mut columns = [0; N];
+    for value in columns.iter_mut() {
+        *value = column(input)?;
+    }
+    Ok(columns)
+}
 
 // Where the session of a draw comes from: an opening; the draw before; or no call: it is made of any three numbers.
-const ORIGIN: usize = 22;
-
-const OPENED: u64 = 0;
-
-const BEFORE: u64 = 1;
-
-// The other columns of a draw. Its words are four words, and each of them raised again and again.
-const DEGREE: usize = 0;
-
-const LIMIT: usize = 1;
-
-const WORDS: usize = 2;
-
-const RAISES: usize = 6;
-
-// The lengths that are lent.
-const CDT_LENT: usize = 10;
-
-const POLYNOMIAL_LENT: usize = 11;
-
-const WORDS_LENT: usize = 12;
-
-const Y_LENT: usize = 13;
-
-const LIST_LENT: usize = 14;
-
-// The deviation, and what drawn is in a session that is made.
-const DEVIATION: usize = 15;
-
-const DRAWN: usize = 16;
-
-fn number<W: Write>(out: &mut W, n: u64) -> io::Result<()> {
-    write!(out, " {n}")
+#[derive(Clone, Copy)]
+enum Origin {
+    Opened,
+    Before,
+    Made,
 }
 
-// n + 2^32, which is not negative.
-fn lifted(n: i32) -> u64 {
-    (n as i64 + 0x1_0000_0000) as u64
-}
-
-fn signed_number<W: Write>(out: &mut W, n: i32) -> io::Result<()> {
-    let place = lifted(n);
-    if place < 0x1_0000_0000 {
-        let size = 0x1_0000_0000 - place;
-        write!(out, " -{size}")
-    } else {
-        number(out, place - 0x1_0000_0000)
+impl From<u64> for Origin {
+    // Any number but 0 and 1 is that of no call.
+    fn from(column: u64) -> Origin {
+        match column {
+            0 => Origin::Opened,
+            1 => Origin::Before,
+            _ => Origin::Made,
+        }
     }
 }
 
-fn show_y<W: Write>(out: &mut W, y: &[i32]) -> io::Result<()> {
-    for value in y {
-        signed_number(out, *value)?;
-    }
-    write!(out, ";")
+// How much is lent of each table, of the words, of y and of the list.
+#[derive(Clone, Copy)]
+struct Lent {
+    cdt: u64,
+    polynomial: u64,
+    words: u64,
+    y: u64,
+    list: u64,
 }
 
-fn widened(entry: u32) -> u64
-    ensures { result < 2 ^ 32 }
-{
-    entry as u64
+// A draw. Its words are four words, and each of them raised again and again. What drawn is counts in a session that is made.
+#[derive(Clone, Copy)]
+struct Row {
+    degree: u64,
+    limit: u64,
+    words: [u64; 4],
+    raises: [u64; 4],
+    lent: Lent,
+    deviation: u64,
+    drawn: u64,
+    origin: Origin,
+}
+
+impl Row {
+    // The next row, column by column. Five of them say nothing of a draw.
+    fn read<R: Read>(input: &mut R) -> io::Result<Row> {
+        let [degree, limit] = columns::<_, 2>(input)?;
+        let words = columns(input)?;
+        let raises = columns(input)?;
+        let [cdt, polynomial, words_lent, y, list] = columns::<_, 5>(input)?;
+        let [deviation, drawn, _, _, _, _, _, origin] = columns::<_, 8>(input)?;
+        Ok(Row {
+            degree,
+            limit,
+            words,
+            raises,
+            lent: Lent {
+                cdt,
+                polynomial,
+                words: words_lent,
+                y,
+                list,
+            },
+            deviation,
+            drawn,
+            origin: Origin::from(origin),
+        })
+    }
+
+    // The session that the draw takes, with the refusal of its opening.
+    fn opening(&self, before: Session) -> Opened {
+        let degree = self.degree as usize;
+        let deviation = self.deviation;
+        match self.origin {
+            Origin::Opened => Session::open(degree, deviation),
+            Origin::Before => Opened {
+                refusal: 0,
+                session: before,
+            },
+            Origin::Made => Opened {
+                refusal: 0,
+                session: Session {
+                    degree,
+                    deviation,
+                    drawn: self.drawn,
+                },
+            },
+        }
+    }
+
+    // Word i: one of the four, raised once for each attempt before its own.
+    fn word(&self, i: usize) -> u64 {
+        let raise = self.raises[i % 4];
+        self.words[i % 4].wrapping_add(raise.wrapping_mul(i as u64 / 4))
+    }
+
+    // Draws over the tables, into the first values of y and the first entries of the list.
+    fn draw(&self, tables: &Tables, session: Session, y: &mut [i32], list: &mut [u32]) -> Drawn {
+        let words: [u64; 516] = array::from_fn(|i| self.word(i));
+        session.draw(
+            self.limit as usize,
+            part(&tables.cdt, self.lent.cdt),
+            part(&tables.polynomial, self.lent.polynomial),
+            part(&words, self.lent.words),
+            part_mut(y, self.lent.y),
+            part_mut(list, self.lent.list),
+        )
+    }
+}
+
+// The tables that draws are over, a row each. A draw is lent the first columns of each.
+#[derive(Clone, Copy)]
+struct Tables {
+    cdt: [u64; COLUMNS],
+    polynomial: [u64; COLUMNS],
+}
+
+impl Tables {
+    // The next two rows.
+    fn read<R: Read>(input: &mut R) -> io::Result<Tables> {
+        let cdt = columns(input)?;
+        let polynomial = columns(input)?;
+        Ok(Tables { cdt, polynomial })
+    }
+
+    // How many draws follow: the last column of the CDT table's row.
+    fn draws(&self) -> u64 {
+        self.cdt[COLUMNS - 1]
+    }
+}
+
+// The first items, as many as are asked for and there are.
+fn part<T>(items: &[T], count: u64) -> &[T] {
+    let n = items.len().min(count as usize);
+    &items[..n]
+}
+
+// The same, to be written.
+fn part_mut<T>(items: &mut [T], count: u64) -> &mut [T] {
+    let n = items.len().min(count as usize);
+    &mut items[..n]
+}
+
+// Samples, each with a space before it.
+#[derive(Clone, Copy)]
+struct Samples<'a>(&'a [i32]);
+
+impl<'a> fmt::Display for Samples<'a> {
+    fn fmt<W: fmt::Write>(&self, f: &mut fmt::Formatter<W>) -> fmt::Result {
+        for sample in self.0 {
+            write!(f, " {sample}")?;
+        }
+        Ok(())
+    }
+}
+
+// The memory of a read list, and how many entries a call wrote there.
+#[derive(Clone, Copy)]
+struct ReadList<'a> {
+    memory: &'a [u32],
+    entries: usize,
+}
+
+impl<'a> fmt::Display for ReadList<'a> {
+    fn fmt<W: fmt::Write>(&self, f: &mut fmt::Formatter<W>) -> fmt::Result {
+        let filled = read_list::filled(self.memory, self.entries);
+        let length = filled.len();
+        write!(f, " {length}")?;
+        if let (Some(first), Some(last)) = (filled.first(), filled.last()) {
+            write!(f, " {first} {last}")?;
+        }
+        let sum = sum_of(self.memory);
+        write!(f, " {sum}")
+    }
 }
 
 // A sum in which each entry counts by its place.
 fn sum_of(list: &[u32]) -> u64 {
     let mut sum: u64 = 0;
     for entry in list {
-        sum = (sum * 1000003 + widened(*entry)) % 2147483647;
+        sum = (sum * 1000003 + u64::from(*entry)) % 2147483647;
     }
     sum
 }
 
-fn show_list<W: Write>(out: &mut W, list: &[u32], count: usize) -> io::Result<()> {
-    let part = read_list::filled(list, count);
-    number(out, part.len() as u64)?;
-    if 0 < part.len() {
-        number(out, widened(part[0]))?;
-        number(out, widened(part[part.len() - 1]))?;
-    }
-    number(out, sum_of(list))?;
-    writeln!(out)
+// What a draw leaves.
+#[derive(Clone, Copy)]
+struct Outcome<'a> {
+    opening: u32,
+    answer: DrawAnswer,
+    next: Session,
+    samples: Samples<'a>,
+    list: &'a [u32],
 }
 
-fn show_answer<W: Write>(out: &mut W, answer: DrawAnswer) -> io::Result<()> {
-    number(out, answer.refusal as u64)?;
-    number(out, answer.attempts as u64)?;
-    number(out, answer.accepted as u64)?;
-    number(out, answer.entries as u64)?;
-    write!(out, ";")
-}
-
-fn show_session<W: Write>(out: &mut W, session: Session) -> io::Result<()> {
-    number(out, session.degree as u64)?;
-    number(out, session.deviation)?;
-    number(out, session.drawn)?;
-    write!(out, ";")
-}
-
-// The value of a digit: those from a on have bit 6, and their low four bits start at 1.
-fn digit(byte: u8) -> u64 {
-    (byte % 16 + byte / 64 * 9) as u64
-}
-
-// The columns of the text of a row. The byte before a column's digits is shifted out by them.
-fn columns(text: &[u8; 391]) -> [u64; 23]
-    ensures { 23 ≡ length result }
-{
-    let mut row = [0u64; 23];
-    for i in 0..391 {
-        let column = i / 17;
-        row[column] = row[column] << 4 | digit(text[i]);
-    }
-    row
-}
-
-fn at_most(n: u64, bound: usize) -> usize
-    ensures { result ≤ bound }
-{
-    let count = n as usize;
-    if count < bound { count } else { bound }
-}
-
-// The word at place i: one of the first four, or the word four places before, raised.
-fn word_at(row: &[u64; 23], words: &[u64; 516], i: usize) -> u64
-    requires { i < 516 }
-{
-    if i < 4 {
-        return row[WORDS + i];
-    }
-    words[i - 4].wrapping_add(row[RAISES + i % 4])
-}
-
-fn words_of(row: &[u64; 23]) -> [u64; 516]
-    ensures { 516 ≡ length result }
-{
-    let mut words = [0u64; 516];
-    for i in 0..516 {
-        words[i] = word_at(row, &words, i);
-    }
-    words
-}
-
-fn opening(row: &[u64; 23], before: Session) -> Opened {
-    let degree = row[DEGREE] as usize;
-    let deviation = row[DEVIATION];
-    match row[ORIGIN] {
-        OPENED => Session::open(degree, deviation),
-        BEFORE => Opened {
-            refusal: 0,
-            session: before,
-        },
-        _ => Opened {
-            refusal: 0,
-            session: Session {
-                degree,
-                deviation,
-                drawn: row[DRAWN],
-            },
-        },
+impl<'a> fmt::Display for Outcome<'a> {
+    fn fmt<W: fmt::Write>(&self, f: &mut fmt::Formatter<W>) -> fmt::Result {
+        let opening = self.opening;
+        let DrawAnswer {
+            refusal,
+            attempts,
+            accepted,
+            entries,
+        } = self.answer;
+        let Session {
+            degree,
+            deviation,
+            drawn,
+        } = self.next;
+        write!(
+            f,
+            " {opening}; {refusal} {attempts} {accepted} {entries}; {degree} {deviation} {drawn};"
+        )?;
+        let samples = self.samples;
+        let read_list = ReadList {
+            memory: self.list,
+            entries,
+        };
+        write!(f, "{samples};{read_list}")
     }
 }
 
-// Draws into the first values of y and the first entries of the list.
-fn draw(
-    row: &[u64; 23],
-    session: Session,
-    cdt: &[u64],
-    polynomial: &[u64],
-    words: &[u64],
-    y: &mut [i32],
-    list: &mut [u32],
-) -> Drawn {
-    let values = at_most(row[Y_LENT], y.len());
-    let entries = at_most(row[LIST_LENT], list.len());
-    session.draw(
-        row[LIMIT] as usize,
-        cdt,
-        polynomial,
-        words,
-        &mut y[..values],
-        &mut list[..entries],
-    )
-}
-
-// The memory of the list. Its contract has its length, by which it is lent.
-fn sevens() -> [u32; 5940]
-    ensures { 5940 ≡ length result }
-{
-    [7; 5940]
-}
-
-// Draws, and shows what is left. Hands back the next session.
+// Makes the draw of a row, and shows what it leaves. Hands back the next session.
 fn show_draw<W: Write>(
     out: &mut W,
-    row: &[u64; 23],
-    session: Session,
-    cdt: &[u64],
-    polynomial: &[u64],
-    words: &[u64],
+    row: &Row,
+    tables: &Tables,
+    before: Session,
 ) -> io::Result<Session> {
-    let mut y = [5i32; 9];
-    let mut list = sevens();
-    let drawn = draw(row, session, cdt, polynomial, words, &mut y, &mut list);
-    let answer = drawn.answer;
-    show_answer(out, answer)?;
-    show_session(out, drawn.session)?;
-    show_y(out, &y)?;
-    show_list(out, &list, answer.entries)?;
+    let opened = row.opening(before);
+    let mut y = [5; 9];
+    let mut list = [7; 5940];
+    let drawn = row.draw(tables, opened.session, &mut y, &mut list);
+    let outcome = Outcome {
+        opening: opened.refusal,
+        answer: drawn.answer,
+        next: drawn.session,
+        samples: Samples(&y),
+        list: &list,
+    };
+    writeln!(out, "{outcome}")?;
     Ok(drawn.session)
-}
-
-// The draw of a row, over the first words of each table. Hands back the next session.
-fn call<W: Write>(
-    out: &mut W,
-    row: &[u64; 23],
-    before: Session,
-    cdt: &[u64],
-    polynomial: &[u64],
-) -> io::Result<Session> {
-    let opened = opening(row, before);
-    number(out, opened.refusal as u64)?;
-    write!(out, ";")?;
-    let words = words_of(row);
-    let thresholds = at_most(row[CDT_LENT], cdt.len());
-    let coefficients = at_most(row[POLYNOMIAL_LENT], polynomial.len());
-    let count = at_most(row[WORDS_LENT], 516);
-    show_draw(
-        out,
-        row,
-        opened.session,
-        &cdt[..thresholds],
-        &polynomial[..coefficients],
-        &words[..count],
-    )
-}
-
-// The columns of the next row. What stdin does not have any more counts as zero bytes.
-fn next_row<R: Read>(input: &mut R) -> io::Result<[u64; 23]>
-    ensures { IfOk result (λ row. 23 ≡ length row) }
-{
-    let mut text = [0u8; 391];
-    input.chain(io::repeat(0)).read_exact(&mut text)?;
-    Ok(columns(&text))
-}
-
-// Each draw takes the session that the one before handed back.
-fn draws<R: Read, W: Write>(
-    input: &mut R,
-    out: &mut W,
-    count: u64,
-    before: Session,
-    cdt: &[u64],
-    polynomial: &[u64],
-) -> io::Result<Session> {
-    let mut session = before;
-    for _ in 0..count {
-        let row = next_row(input)?;
-        session = call(out, &row, session, cdt, polynomial)?;
-    }
-    Ok(session)
 }
 
 // A proved loop has to end, and nothing says that stdin does: so the tables are counted, up to a number that no run uses up.
@@ -287,13 +286,15 @@ fn main(rt: HostRuntime) -> io::Result<()> {
         drawn: 0,
     };
     for _ in 0..u64::MAX {
-        let cdt = next_row(&mut input)?;
-        let polynomial = next_row(&mut input)?;
-        let count = cdt[COUNT];
-        if count == 0 {
+        let tables = Tables::read(&mut input)?;
+        let draws = tables.draws();
+        if draws == 0 {
             break;
         }
-        session = draws(&mut input, &mut out, count, session, &cdt, &polynomial)?;
+        for _ in 0..draws {
+            let row = Row::read(&mut input)?;
+            session = show_draw(&mut out, &row, &tables, session)?;
+        }
     }
     out.flush()
 }

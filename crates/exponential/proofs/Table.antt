@@ -11,7 +11,7 @@ use lib.Pow.{pow_pos}
 use lib.Dec.{eqb}
 use lib.ListN.{get_or}
 use Rattle.exponential.specs.Exponential.{factorial, polynomial_entry, entries_from, polynomial, same_words, is_polynomial}
-use Rattle.exponential.specs.Exponential.{reciprocal, scaled, evaluate, squared, squarings, exp_scaled, exp_with, divisor_at, divisor}
+use Rattle.exponential.specs.Exponential.{reciprocal, scaled, evaluate, squared, squarings, exp_scaled, exp_with, divisor}
 use Rattle.exponential.specs.Exponential.{SquaredNearest}
 
 -- ** Factorials
@@ -90,17 +90,7 @@ pub polynomial_of : (table : List ℕ) → is_polynomial table ≡ true → tabl
 unfolding is_polynomial
 polynomial_of table e = same_words_lem table polynomial e
 
-pub not_polynomial : (table : List ℕ) → (table ≡ polynomial → ⊥) → false ≡ is_polynomial table
-not_polynomial table h = by (is_polynomial table) refl
-  where
-    by : (t : Bool) → is_polynomial table ≡ t → false ≡ t
-    by true e = absurd (h (polynomial_of table e))
-    by false e = refl
-
 -- ** Deviation 215
-
-pub divisor_at_215 : divisor_at 215 ≡ divisor
-divisor_at_215 = refl
 
 pub reciprocal_215 : reciprocal divisor ≡ 3269134179596076729
 unfolding reciprocal

@@ -21,18 +21,11 @@ const NAMED: [u64; 12] = [
     18446744073709551615,
 ];
 
-fn show<W: Write>(out: &mut W, n: u64) -> io::Result<()> {
-    let e = exponential::exp_or_refusal(n);
-    writeln!(out, "{n} {e}")
-}
-
 fn main(rt: HostRuntime) -> io::Result<()> {
     let mut out = BufWriter::new(rt.alloc(), io::writer(&rt))?;
-    for n in NAMED {
-        show(&mut out, n)?;
-    }
-    for n in (9973..5534960).step_by(9973) {
-        show(&mut out, n)?;
+    for n in NAMED.into_iter().chain((9973..5534960).step_by(9973)) {
+        let e = exponential::exp_or_refusal(n);
+        writeln!(out, "{n} {e}")?;
     }
     out.flush()
 }

@@ -6,12 +6,13 @@ use native.Mathlib.Nat.{mul-le-mul_right}
 use native.Mathlib.Omega.{arith}
 use native.Mathlib.Numerals.{add-one}
 use native.Mathlib.Decide.{ℕ_discrete, dec_lt}
-use lib.ListN.{get_or, set, length-set, replicate, length-replicate}
+use lib.ListN.{length, get_or, set, replicate}
+use Rattle.std.proofs.lemmas.List.{get_or_past}
 use lib.Seq.{get_or-set_same, get_or-set_other}
 use lib.IntN.{ℤ, pos, neg_ℤ, nat_abs, ◌+ℤ◌}
 use Rattle.signed.proofs.Signs.{abs_add, abs_neg}
 use Rattle.largest.specs.Largest.{largest_sum}
-use Rattle.largest.specs.Threshold.{value_at, value_bound, InRange}
+use Rattle.largest.specs.Threshold.{value_at}
 use Rattle.largest.proofs.Falling.{largest_sum_same, largest_sum_small}
 use Rattle.key_check.specs.KeyCheck.{table, row_sum, final_sum}
 use Rattle.key_check.specs.Rows.{sum_to, terms, Holds, entry_bound, row_sum_bound, HoldsRow, turned, MovedOn}
@@ -25,23 +26,15 @@ zeros_at (suc count) zero = refl
 zeros_at (suc count) (suc j) = zeros_at count j
 
 module _ (f : ℕ → ℤ) (bound : ℕ) where
-  pub holds_none : Holds f bound (replicate 1024 (pos 0)) 0
-  holds_none = record {
-    size = length-replicate 1024 (pos 0);
-    at = λ j h. absurd (omega arith);
-    small = λ j. rw (zeros_at 1024 j) (omega arith);
-  }
+  pub holds_none : (n : ℕ) → Holds f bound (replicate n (pos 0)) 0
+  holds_none n = record { at = λ j h. absurd (omega arith); small = λ j. rw (zeros_at n j) (omega arith) }
 
-  pub holds_more : (values : List ℤ) (v : ℤ) (n : ℕ) → Holds f bound values n → n < 1024 → v ≡ f n → nat_abs v ≤ bound
+  pub holds_more : (values : List ℤ) (v : ℤ) (n : ℕ) → Holds f bound values n → n < length values → v ≡ f n → nat_abs v ≤ bound
       → Holds f bound (set values n v) (n + 1)
-  holds_more values v n h g e s = record {
-    size = length-set values n v ∙ h.size;
-    at = λ j k. at j k (ℕ_discrete j n);
-    small = λ j. small j (ℕ_discrete j n);
-  }
+  holds_more values v n h g e s = record { at = λ j k. at j k (ℕ_discrete j n); small = λ j. small j (ℕ_discrete j n) }
     where
       here : get_or (set values n v) n (pos 0) ≡ v
-      here = get_or-set_same values n v (pos 0) (omega (arith, h.size))
+      here = get_or-set_same values n v (pos 0) g
 
       at : (j : ℕ) → j < n + 1 → Dec (j ≡ n) → get_or (set values n v) j (pos 0) ≡ f j
       at j k (yes q) = subst (λ (i : ℕ). get_or (set values n v) i (pos 0) ≡ f i) (sym q) (here ∙ e)
@@ -50,10 +43,6 @@ module _ (f : ℕ → ℤ) (bound : ℕ) where
       small : (j : ℕ) → Dec (j ≡ n) → nat_abs (get_or (set values n v) j (pos 0)) ≤ bound
       small j (yes q) = rw (q, here) s
       small j (no q) = rw (get_or-set_other values n j v (pos 0) q) (h.small j)
-
-  -- it can be summed up
-  pub in_range : (values : List ℤ) (n : ℕ) → Holds f bound values n → n ≤ 1024 → bound < value_bound → InRange values n
-  in_range values n h few b = record { there = omega (arith, h.size); few = few; small = λ j. omega (arith, h.small j) }
 
   pub sum_of : (values : List ℤ) (n count : ℕ) → Holds f bound values n
       → (largest_sum (value_at values) n count ≡ largest_sum f n count) × (nat_abs (largest_sum (value_at values) n count) ≤ count * bound)
@@ -71,26 +60,27 @@ module _ (key : List ℤ) (n : ℕ) where
   pub entry_small : (first second : ℤ) → nat_abs first ≤ 49 * n → nat_abs second ≤ 49 * n → n ≤ 1024 → nat_abs (first +ℤ second) ≤ entry_bound
   entry_small first second e g h = omega (arith, abs_add first second)
 
-  pub next_row : (i : ℕ) (row row' : List ℤ) → i < n → HoldsRow key n i row → MovedOn n row row' → HoldsRow key n (i + 1) row'
-  next_row i row row' h r m = record {
-    size = m.size ∙ r.size;
-    at = λ j k. m.on j k ∙ at j k;
+  pub next_row : (i : ℕ) (row row' : List ℤ) → i < n → length row ≡ n → HoldsRow key n i row → MovedOn row row'
+      → HoldsRow key n (i + 1) row'
+  next_row i row row' h size r m = record {
+    at = λ j k. m.on j (omega arith) ∙ at j k;
     small = λ j. small j (dec_lt j n);
   }
     where
-      at : (j : ℕ) → j < n → get_or (turned n row) j (pos 0) ≡ table key n (i + 1) j
+      at : (j : ℕ) → j < n → get_or (turned row) j (pos 0) ≡ table key n (i + 1) j
       at zero k =
-          ap neg_ℤ (r.at (n - 1) (omega arith)) ∙ sym (next_first key n i h) ∙ ap (λ (x : ℕ). table key n x 0) (sym (add-one i))
+          ap neg_ℤ (ap (λ (m : ℕ). get_or row (m - 1) (pos 0)) size ∙ r.at (n - 1) (omega arith)) ∙ sym (next_first key n i h)
+          ∙ ap (λ (x : ℕ). table key n x 0) (sym (add-one i))
       at (suc j) k =
           r.at j (omega arith) ∙ sym (table_on key n i j h (omega arith)) ∙ ap (λ (x : ℕ). table key n x (suc j)) (sym (add-one i))
 
-      front : (j : ℕ) → nat_abs (get_or (turned n row) j (pos 0)) ≤ entry_bound
-      front zero = rw (abs_neg (get_or row (n - 1) (pos 0))) (r.small (n - 1))
+      front : (j : ℕ) → nat_abs (get_or (turned row) j (pos 0)) ≤ entry_bound
+      front zero = rw (abs_neg (get_or row (length row - 1) (pos 0))) (r.small (length row - 1))
       front (suc j) = r.small j
 
       small : (j : ℕ) → Dec (j < n) → nat_abs (get_or row' j (pos 0)) ≤ entry_bound
-      small j (yes k) = rw (m.on j k) (front j)
-      small j (no k) = rw (m.rest j (omega arith)) (r.small j)
+      small j (yes k) = rw (m.on j (omega arith)) (front j)
+      small j (no k) = rw (get_or_past row' j (pos 0) (omega (arith, m.size))) (omega arith)
 
 -- ** Sums
 

@@ -1,20 +1,17 @@
 -- A half's inner product with its rotation as two stretches of products; the loop over a stretch. Assumes nothing.
 use mathlib.Core.Path.{◌≡◌, refl, sym, ap, ap₂, ◌∙◌}
-use mathlib.Core.Bool.{true}
-use mathlib.Core.List.{List}
+use mathlib.Core.List.{List, [], ◌∷◌}
 use Prim.Native.Nat.{ℕ, zero, suc, ◌+◌, ◌-◌, ◌*◌, ◌≤◌, ◌<◌}
 use native.Mathlib.Nat.{mul-le-mul}
 use native.Mathlib.Omega.{arith}
 use native.Mathlib.Numerals.{add-one}
-use lib.ListN.{get_or}
+use lib.ListN.{length, get_or, take, drop}
+use Rattle.std.proofs.lemmas.List.{get_or-take, get_or-drop, length-take, length-drop}
 use lib.IntN.{ℤ, pos, neg_ℤ, nat_abs, ◌+ℤ◌, ◌-ℤ◌, ◌*ℤ◌, +ℤ_idr, +ℤ_assoc, +ℤ_comm}
-use Rattle.signed.specs.Vectors.{all_within}
 use Rattle.signed.proofs.Signs.{abs_add, abs_mul}
-use Rattle.signed.proofs.Vectors.{within_at}
 use Rattle.signed.proofs.Integers.{neg-*ℤ}
-use Rattle.challenge_product.specs.Product.{key_bound}
 use Rattle.challenge_product.proofs.Modulo.{term_direct, term_wrapped}
-use Rattle.key_check.specs.Rows.{sum_to, product_at, terms}
+use Rattle.key_check.specs.Rows.{AreSmall, sum_to, product_of, product_at, terms}
 use Rattle.key_check.proofs.Table.{sum_to_same, sum_to_neg}
 
 -- ** The loop
@@ -27,24 +24,22 @@ sum_to_more : (f : ℕ → ℤ) (p : ℕ) → sum_to f (p + 1) ≡ sum_to f p +�
 unfolding sum_to
 sum_to_more f p = ap (sum_to f) (add-one p)
 
--- before turn p the sum is that of the first p products
-pub record Summed (key : List ℤ) (a b : ℕ) (sum : ℤ) (p : ℕ) : Type 0 where
-  pub total : sum ≡ sum_to (product_at key a b) p
+-- before a turn the sum is that of the first p products
+pub record Summed (a b : List ℤ) (sum : ℤ) (p : ℕ) : Type 0 where
+  pub total : sum ≡ sum_to (product_of a b) p
   pub few : nat_abs sum ≤ 49 * p
 
-module _ (key : List ℤ) (a b : ℕ) (small : all_within key_bound key ≡ true) where
-  pub product_small : (p : ℕ) → nat_abs (product_at key a b p) ≤ 49
-  product_small p =
-      rw (abs_mul (get_or key (a + p) (pos 0)) (get_or key (b + p) (pos 0)))
-      (mul-le-mul (within_at 7 key small (a + p)) (within_at 7 key small (b + p)))
+module _ (a b : List ℤ) (a_small : AreSmall a) (b_small : AreSmall b) where
+  pub product_small : (p : ℕ) → nat_abs (product_of a b p) ≤ 49
+  product_small p = rw (abs_mul (get_or a p (pos 0)) (get_or b p (pos 0))) (mul-le-mul (a_small p) (b_small p))
 
-  pub summed_none : Summed key a b (pos 0) 0
-  summed_none = record { total = sym (sum_to_none (product_at key a b)); few = omega arith }
+  pub summed_none : Summed a b (pos 0) 0
+  summed_none = record { total = sym (sum_to_none (product_of a b)); few = omega arith }
 
-  pub summed_more : (sum : ℤ) (p : ℕ) → Summed key a b sum p → Summed key a b (sum +ℤ product_at key a b p) (p + 1)
+  pub summed_more : (sum : ℤ) (p : ℕ) → Summed a b sum p → Summed a b (sum +ℤ product_of a b p) (p + 1)
   summed_more sum p s = record {
-    total = ap (λ (x : ℤ). x +ℤ product_at key a b p) s.total ∙ sym (sum_to_more (product_at key a b) p);
-    few = omega (arith, s.few, product_small p, abs_add sum (product_at key a b p));
+    total = ap (λ (x : ℤ). x +ℤ product_of a b p) s.total ∙ sym (sum_to_more (product_of a b) p);
+    few = omega (arith, s.few, product_small p, abs_add sum (product_of a b p));
   }
 
 -- ** The two stretches
@@ -77,9 +72,9 @@ module _ (key : List ℤ) (n base c : ℕ) (h : c < n) where
       (term_direct key n base (c + p) c (omega arith) ∙ ap at (omega arith))
       (term_direct key n base (c + p) 0 (omega arith) ∙ ap at (omega arith))
 
-  pub half_by_stretches :
+  by_key :
       sum_to (product_at key base (base + c)) (n - c) -ℤ sum_to (product_at key (base + (n - c)) base) c ≡ sum_to (terms key n base c 0) n
-  half_by_stretches =
+  by_key =
       let behind = sum_to (product_at key base (base + c)) (n - c) in
       let before = sum_to (product_at key (base + (n - c)) base) c in
       +ℤ_comm behind (neg_ℤ before)
@@ -89,3 +84,46 @@ module _ (key : List ℤ) (n base c : ℕ) (h : c < n) where
       (sum_to_same (λ (p : ℕ). terms key n base c 0 (c + p)) (product_at key base (base + c)) (n - c) (λ p g. direct p)))
       ∙ sym (sum_to_split (terms key n base c 0) c (n - c))
       ∙ ap (sum_to (terms key n base c 0)) (omega arith)
+
+-- the half as a list
+module _ (key half : List ℤ) (n base c : ℕ) (h : c < n) (size : length half ≡ n)
+    (same : (p : ℕ) → p < n → get_or half p (pos 0) ≡ get_or key (base + p) (pos 0)) where
+  part_at : (m from p : ℕ) → p < m → from + p < n → get_or (take m (drop from half)) p (pos 0) ≡ get_or key (base + (from + p)) (pos 0)
+  part_at m from p g k = get_or-take m (drop from half) p (pos 0) g ∙ get_or-drop from half p (pos 0) ∙ same (from + p) k
+
+  front_at : (m p : ℕ) → p < m → p < n → get_or (take m half) p (pos 0) ≡ get_or key (base + p) (pos 0)
+  front_at m p g k = get_or-take m half p (pos 0) g ∙ same p k
+
+  pub half_by_stretches :
+      sum_to (product_of (take (n - c) half) (take (length half - c) (drop c half))) (length (take (n - c) half))
+      -ℤ sum_to (product_of (take (length half - (n - c)) (drop (n - c) half)) (take c half))
+      (length (take (length half - (n - c)) (drop (n - c) half)))
+      ≡ sum_to (terms key n base c 0) n
+  half_by_stretches =
+      let at : ℕ → ℤ = λ x. get_or key x (pos 0) in
+      let first : length (take (n - c) half) ≡ n - c = omega (arith, length-take (n - c) half) in
+      let second : length (take (length half - (n - c)) (drop (n - c) half)) ≡ c =
+      omega (arith, length-take (length half - (n - c)) (drop (n - c) half), length-drop (n - c) half) in
+      ap₂ (λ (x y : ℤ). x -ℤ y)
+      (ap (sum_to (product_of (take (n - c) half) (take (length half - c) (drop c half)))) first
+      ∙ sum_to_same (product_of (take (n - c) half) (take (length half - c) (drop c half))) (product_at key base (base + c)) (n - c)
+      (λ p g. ap₂ (λ (x y : ℤ). x *ℤ y) (front_at (n - c) p g (omega arith))
+      (part_at (length half - c) c p (omega arith) (omega arith) ∙ ap at (omega arith))))
+      (ap (sum_to (product_of (take (length half - (n - c)) (drop (n - c) half)) (take c half))) second
+      ∙ sum_to_same (product_of (take (length half - (n - c)) (drop (n - c) half)) (take c half)) (product_at key (base + (n - c)) base) c
+      (λ p g. ap₂ (λ (x y : ℤ). x *ℤ y) (part_at (length half - (n - c)) (n - c) p (omega arith) (omega arith) ∙ ap at (omega arith))
+      (front_at c p g (omega arith))))
+      ∙ by_key key n base c h
+
+-- ** Parts of small values
+
+pub take_small : (n : ℕ) (values : List ℤ) → AreSmall values → AreSmall (take n values)
+take_small zero values h j = omega arith
+take_small (suc n) [] h j = omega arith
+take_small (suc n) (v ∷ values) h zero = h 0
+take_small (suc n) (v ∷ values) h (suc j) = take_small n values (λ k. h (suc k)) j
+
+pub drop_small : (n : ℕ) (values : List ℤ) → AreSmall values → AreSmall (drop n values)
+drop_small zero values h j = h j
+drop_small (suc n) [] h j = omega arith
+drop_small (suc n) (v ∷ values) h j = drop_small n values (λ k. h (suc k)) j

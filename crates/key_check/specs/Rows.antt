@@ -17,6 +17,14 @@ unfoldable pub sum_to : (f : ℕ → ℤ) (n : ℕ) → ℤ
 sum_to f zero = pos 0
 sum_to f (suc n) = sum_to f n +ℤ f n
 
+-- values of a stretch of such a key
+abbrev pub AreSmall : (values : List ℤ) → Type 0
+AreSmall values = (j : ℕ) → nat_abs (get_or values j (pos 0)) ≤ key_bound
+
+-- the product of two stretches' values at place p
+abbrev pub product_of : (a b : List ℤ) (p : ℕ) → ℤ
+product_of a b p = get_or a p (pos 0) *ℤ get_or b p (pos 0)
+
 -- the product of the key's values at a + p and b + p
 abbrev pub product_at : (key : List ℤ) (a b p : ℕ) → ℤ
 product_at key a b p = get_or key (a + p) (pos 0) *ℤ get_or key (b + p) (pos 0)
@@ -25,9 +33,8 @@ product_at key a b p = get_or key (a + p) (pos 0) *ℤ get_or key (b + p) (pos 0
 abbrev pub terms : (key : List ℤ) (n base i j p : ℕ) → ℤ
 terms key n base i j p = term_at key n base p i *ℤ term_at key n base p j
 
--- a buffer of 1,024 values whose first n are those of f, and none larger than a bound
+-- values whose first n are those of f, and none larger than a bound
 pub record Holds (f : ℕ → ℤ) (bound : ℕ) (values : List ℤ) (n : ℕ) : Type 0 where
-  pub size : length values ≡ 1024
   pub at : (j : ℕ) → j < n → get_or values j (pos 0) ≡ f j
   pub small : (j : ℕ) → nat_abs (get_or values j (pos 0)) ≤ bound
 
@@ -43,12 +50,11 @@ row_sum_bound = 64 * entry_bound
 abbrev pub HoldsRow : (key : List ℤ) (n i : ℕ) (row : List ℤ) → Type 0
 HoldsRow key n i row = Holds (table key n i) entry_bound row n
 
--- minus the last value of row[..n], and then the row
-abbrev pub turned : (n : ℕ) (row : List ℤ) → List ℤ
-turned n row = neg_ℤ (get_or row (n - 1) (pos 0)) ∷ row
+-- minus the last value of a row, and then the row
+abbrev pub turned : (row : List ℤ) → List ℤ
+turned row = neg_ℤ (get_or row (length row - 1) (pos 0)) ∷ row
 
--- row[..n] moved on by one place, with minus its last value in front
-pub record MovedOn (n : ℕ) (row row' : List ℤ) : Type 0 where
+-- a row moved on by one place, with minus its last value in front
+pub record MovedOn (row row' : List ℤ) : Type 0 where
   pub size : length row' ≡ length row
-  pub on : (j : ℕ) → j < n → get_or row' j (pos 0) ≡ get_or (turned n row) j (pos 0)
-  pub rest : (j : ℕ) → n ≤ j → get_or row' j (pos 0) ≡ get_or row j (pos 0)
+  pub on : (j : ℕ) → j < length row → get_or row' j (pos 0) ≡ get_or (turned row) j (pos 0)

@@ -2,27 +2,21 @@
 // the final sum is compared with its limit.
 #![tactic(auto)]
 
-ghost use Rattle.std.specs.Prelude.{◌≡◌, true, ◌+◌, ◌-◌, ◌*◌, ◌<◌, ◌≤◌, length, get_or, replicate, pos, nat_abs};
-ghost use Rattle.signed.specs.Vectors.{all_within};
-ghost use Rattle.challenge_product.specs.Product.{key_bound};
-ghost use Rattle.key_check.specs.KeyCheck.{final_sum, is_length, answer, key_answer};
-ghost use Rattle.key_check.specs.Rows.{Keyed, sum_to, product_at, terms, entry_bound, HoldsRow, MovedOn};
+ghost use Rattle.std.specs.Prelude.{◌≡◌, true, ◌+◌, ◌-◌, ◌*◌, ◌<◌, ◌≤◌, length, get_or, replicate, pos, nat_abs, IfOk};
+ghost use Rattle.refused.specs.Refusals.{refusal_of};
+ghost use Rattle.key_check.specs.KeyCheck.{final_sum, is_length, key_refusal, key_answer};
+ghost use Rattle.key_check.specs.Rows.{Keyed, AreSmall, sum_to, product_of, terms, entry_bound, HoldsRow, MovedOn};
 
-// The sum of products of key[a..a + count] and key[b..b + count], place by place.
-fn stretch(key: &[i32], a: usize, b: usize, count: usize) -> i32
-    requires { (all_within key_bound key.now ≡ true)
-        × (length key.now ≤ 2048)
-        × (a + count ≤ length key.now)
-        × (b + count ≤ length key.now) }
-    ensures { (result ≡ sum_to (product_at key.now a b) count) × (nat_abs result ≤ 49 * count) }
+use refused::Refusal;
+
+// The sum of products of two stretches of the key, place by place.
+fn stretch(a: &[i32], b: &[i32]) -> i32
+    requires { AreSmall a.now × AreSmall b.now × (length a.now ≡ length b.now) × (length a.now ≤ 1024) }
+    ensures { (result ≡ sum_to (product_of a.now b.now) (length a.now)) × (nat_abs result ≤ 49 * length a.now) }
 {
     let mut sum: i32 = 0;
-    let mut p: usize = 0;
-    while p < count {
-        let x = key[a + p];
-        let y = key[b + p];
+    for (x, y) in a.iter().zip(b) {
         sum += x * y;
-        p += 1;
     }
     sum
 }
@@ -32,40 +26,35 @@ fn half_inner(key: &[i32], n: usize, base: usize, c: usize) -> i32
     requires { Keyed key.now n × (base ≤ n) × (c < n) }
     ensures { (result ≡ sum_to (terms key.now n base c 0) n) × (nat_abs result ≤ 49 * n) }
 {
-    let direct = stretch(key, base, base + c, n - c);
-    let wrapped = stretch(key, base + (n - c), base, c);
+    let half = &key[base..base + n];
+    let direct = stretch(&half[..n - c], &half[c..]);
+    let wrapped = stretch(&half[n - c..], &half[..c]);
     direct - wrapped
 }
 
 // Row 0 of the table.
-fn first_row(key: &[i32], n: usize, row: &mut [i32])
-    requires { Keyed key.now n × (row.old ≡ replicate 1024 (pos 0)) }
-    ensures { HoldsRow key.now n 0 row.new }
+fn first_row(key: &[i32], row: &mut [i32])
+    requires { Keyed key.now (length row.old) × (row.old ≡ replicate (length row.old) (pos 0)) }
+    ensures { HoldsRow key.now (length row.old) 0 row.new }
 {
-    let mut j: usize = 0;
-    while j < n {
+    let n = row.len();
+    for (j, entry) in row.iter_mut().enumerate() {
         let first = half_inner(key, n, 0, j);
         let second = half_inner(key, n, n, j);
-        let entry = signed::plus(first, second);
-        row[j] = entry;
-        j += 1;
+        *entry = signed::plus(first, second);
     }
 }
 
-// The next row: row[..n] moved on by one place, with minus its last entry in front.
-fn next_row(row: &mut [i32], n: usize)
-    requires { (0 < n) × (n ≤ length row.old) × (nat_abs (get_or row.old (n - 1) (pos 0)) ≤ entry_bound) }
-    ensures { MovedOn n row.old row.new }
+// The next row: moved on by one place, with minus its last entry in front.
+fn next_row(row: &mut [i32])
+    requires { (0 < length row.old) × (nat_abs (get_or row.old (length row.old - 1) (pos 0)) ≤ entry_bound) }
+    ensures { MovedOn row.old row.new }
 {
-    let last = row[n - 1];
-    let minus = 0 - last;
-    let mut carried: i32 = minus;
-    let mut j: usize = 0;
-    while j < n {
-        let entry = row[j];
-        row[j] = carried;
-        carried = entry;
-        j += 1;
+    let mut carried = 0 - row[row.len() - 1];
+    for entry in row.iter_mut() {
+        let value = *entry;
+        *entry = carried;
+        carried = value;
     }
 }
 
@@ -76,15 +65,14 @@ fn final_sum(key: &[i32], n: usize, count: usize) -> u32
 {
     let mut row: [i32; 1024] = [0; 1024];
     let mut sums: [i32; 1024] = [0; 1024];
-    first_row(key, n, &mut row);
-    let mut i: usize = 0;
-    while i < n {
-        let sum = largest::largest_sum(&row, n, count);
-        sums[i] = sum;
-        next_row(&mut row, n);
-        i += 1;
+    let row = &mut row[..n];
+    let sums = &mut sums[..n];
+    first_row(key, row);
+    for sum in sums.iter_mut() {
+        *sum = largest::largest_sum(row, count);
+        next_row(row);
     }
-    largest::largest_sum(&sums, n, count) as u32
+    largest::largest_sum(sums, count) as u32
 }
 
 // Whether a challenge of degree n can have so many positions.
@@ -95,7 +83,7 @@ fn is_length(n: usize, count: usize) -> bool
     (count != 0) & fits
 }
 
-// The answer of the key check: a refusal and 0, or 0 and the final sum.
+// What the key check answers to C, by value: a refusal and 0, or 0 and the final sum.
 #[repr(C)]
 #[derive(Clone, Copy)]
 pub struct KeyCheck {
@@ -103,38 +91,41 @@ pub struct KeyCheck {
     pub sum: u32,
 }
 
-// The answer to a key that is refused.
-fn refuse(refusal: u32) -> KeyCheck
-    ensures { result ≡ answer refusal 0 }
-{
-    KeyCheck {
-        refusal: refusal,
-        sum: 0,
-    }
-}
-
 // The key check, for challenges of just `count` positions.
+#[tactic(auto, unfolding(crate::specs::KeyCheck::key_answer))]
 pub fn check_key(n: usize, key: &[i32], count: usize) -> KeyCheck
     ensures { result ≡ key_answer n key.now count }
 {
+    match checked(n, key, count) {
+        Ok(sum) => KeyCheck { refusal: 0, sum },
+        Err(refusal) => KeyCheck {
+            refusal: refusal.number(),
+            sum: 0,
+        },
+    }
+}
+
+// The final sum, or the first refusal that applies.
+#[tactic(auto, using(crate::proofs::Answers::tested), unfolding(crate::specs::KeyCheck::key_refusal, checks::specs::Checks::first_refusal))]
+fn checked(n: usize, key: &[i32], count: usize) -> Result<u32, Refusal>
+    ensures refusal { refusal_of result ≡ key_refusal n key.now count }
+    ensures sum { IfOk result (λ sum. pos sum ≡ final_sum key.now n count) }
+{
     if !checks::is_degree(n) {
-        return refuse(refused::DEGREE);
+        return Err(Refusal::Degree);
     }
     if key.len() != 2 * n {
-        return refuse(refused::LENGTHS);
+        return Err(Refusal::Lengths);
     }
     if !is_length(n, count) {
-        return refuse(refused::CHALLENGE);
+        return Err(Refusal::Challenge);
     }
     if !signed::all_within(key, challenge_product::KEY_BOUND) {
-        return refuse(refused::KEY);
+        return Err(Refusal::Key);
     }
     let sum = final_sum(key, n, count);
     if acceptance::SQUARES_LIMIT < sum as u64 {
-        return refuse(refused::KEY_SUM);
+        return Err(Refusal::KeySum);
     }
-    KeyCheck {
-        refusal: 0,
-        sum: sum,
-    }
+    Ok(sum)
 }

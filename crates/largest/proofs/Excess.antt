@@ -1,17 +1,17 @@
 -- By how much a value is over a threshold, as the loop of `excess_over` adds it up. Assumes nothing.
-use mathlib.Core.Path.{◌≡◌, refl, sym, ap, ap₂, ◌∙◌}
+use mathlib.Core.Path.{◌≡◌, refl}
 use mathlib.Core.Bool.{Bool, true, false, cond}
 use Prim.Native.Nat.{ℕ, ◌+◌, ◌*◌, ◌^◌, ◌≤◌, ◌<◌}
 use native.Mathlib.Omega.{arith}
-use lib.IntN.{ℤ, pos, negsuc, neg_ℤ, nat_abs, ◌+ℤ◌, ◌-ℤ◌}
+use lib.IntN.{ℤ, pos, negsuc, nat_abs, ◌+ℤ◌, ◌-ℤ◌}
 use lib.Signed.{le_z}
 use borrow.Author.Tests.{le-leb}
-use Rattle.signed.proofs.Signs.{abs_add, abs_neg}
+use Rattle.std.proofs.lemmas.Int.{ints}
 use Rattle.largest.specs.Threshold.{value_bound, threshold_bound, sum_over, reaches, positive_part, excess}
 use Rattle.largest.proofs.Threshold.{sum_more, sum_rises, sum_scaled, not_over}
 
 abs_minus : (a b : ℤ) → nat_abs (a -ℤ b) ≤ nat_abs a + nat_abs b
-abs_minus a b = omega (arith, abs_add a (neg_ℤ b), abs_neg b)
+abs_minus a b = omega (arith, ints)
 
 -- what is kept of a difference is its positive part
 positive : (z : ℤ) → cond (le_z (pos 0) z) z (pos 0) ≡ pos (positive_part z)
@@ -49,4 +49,4 @@ module _ (t : ℤ) (f : ℕ → ℤ) (n : ℕ) (t_small : nat_abs t ≤ threshol
       → kept ≡ cond (le_z (pos 0) (f j -ℤ t)) (f j -ℤ t) (pos 0)
       → sum +ℤ kept ≡ pos (sum_over (excess t) f (j + 1))
   excess_more j sum kept s k =
-      ap₂ (λ (x y : ℤ). x +ℤ y) s (k ∙ positive (f j -ℤ t)) ∙ ap pos (sym (sum_more (excess t) f j))
+      omega (arith, ints, positive (f j -ℤ t), sum_more (excess t) f j)

@@ -6,34 +6,23 @@ use Prim.Native.Nat.{ℕ, zero, suc, ◌*◌, ◌≤◌, ◌<◌}
 use native.Mathlib.Omega.{arith}
 use lib.ListN.{length, get_or, take}
 use lib.Seq.{take_all}
-use lib.IntN.{ℤ, pos, nat_abs, ◌+ℤ◌, +ℤ_assoc, +ℤ_comm}
+use lib.IntN.{ℤ, pos, nat_abs, ◌+ℤ◌}
 use lib.Signed.{le_z}
+use Rattle.std.proofs.lemmas.Int.{ints}
 use Rattle.signed.proofs.Signs.{abs_add}
-use Rattle.signed.proofs.Integers.{Le, le_same, le_is, le_then, le_sum, le_of_test, le_of_not}
+use Rattle.signed.proofs.Integers.{Le, le_same, le_is, le_then, le_sum, le_of_test}
 use Rattle.largest.specs.Largest.{larger, smaller, insert, falling, total, largest_sum}
 
 -- ** The larger and the smaller of two
 
 pub le_larger : (x y : ℤ) → Le x (larger x y)
-le_larger x y = by (le_z x y) refl
-  where
-    by : (t : Bool) → le_z x y ≡ t → Le x (cond t y x)
-    by true e = le_of_test x y e
-    by false e = le_same x
+le_larger x y = le_of_test x (larger x y) (grind (arith, ints))
 
 pub le_larger' : (x y : ℤ) → Le y (larger x y)
-le_larger' x y = by (le_z x y) refl
-  where
-    by : (t : Bool) → le_z x y ≡ t → Le y (cond t y x)
-    by true e = le_same y
-    by false e = le_of_not x y e
+le_larger' x y = le_of_test y (larger x y) (grind (arith, ints))
 
 both : (x y : ℤ) → x +ℤ y ≡ larger x y +ℤ smaller x y
-both x y = by (le_z x y)
-  where
-    by : (t : Bool) → x +ℤ y ≡ cond t y x +ℤ cond t x y
-    by true = +ℤ_comm x y
-    by false = refl
+both x y = grind (arith, ints)
 
 -- ** The falling list
 
@@ -79,10 +68,7 @@ insert_with zero x [] h = le_same (x +ℤ pos 0)
 insert_with zero x (y ∷ values) h = le_sum (le_larger x y) (le_same (pos 0))
 insert_with (suc k) x [] h = absurd (omega arith)
 insert_with (suc k) x (y ∷ values) h =
-    le_then
-    (le_is (sym (+ℤ_assoc x y (total (take k values))) ∙ ap (λ (z : ℤ). z +ℤ total (take k values)) (both x y)
-    ∙ +ℤ_assoc (larger x y) (smaller x y) (total (take k values))))
-    (le_sum (le_same (larger x y)) (insert_with k (smaller x y) values (omega arith)))
+    le_then (le_is (omega (arith, ints, both x y))) (le_sum (le_same (larger x y)) (insert_with k (smaller x y) values (omega arith)))
 
 -- ** Sizes
 

@@ -7,9 +7,10 @@ use native.Mathlib.Decide.{dec_le}
 use native.Mathlib.Omega.{arith}
 use native.Mathlib.Numerals.{add-one}
 use lib.ListN.{take}
-use lib.IntN.{ℤ, pos, negsuc, ◌+ℤ◌, ◌-ℤ◌, ◌*ℤ◌, suc_ℤ-*ℤ, zero-*ℤ, +ℤ_comm, +ℤ_assoc, -ℤ-+ℤ_cancel, +ℤ-neg_ℤ_cancel}
+use lib.IntN.{ℤ, pos, negsuc, ◌+ℤ◌, ◌-ℤ◌, ◌*ℤ◌, suc_ℤ-*ℤ, zero-*ℤ, +ℤ_comm, +ℤ_assoc, -ℤ-+ℤ_cancel}
 use lib.Signed.{le_z}
-use Rattle.signed.proofs.Integers.{Le, le_then, le_of_test, test_of_le, +ℤ-mix}
+use Rattle.std.proofs.lemmas.Int.{ints}
+use Rattle.signed.proofs.Integers.{Le, le_of_test, test_of_le}
 use Rattle.largest.specs.Largest.{larger, smaller, insert, falling, total, largest_sum}
 use Rattle.largest.specs.Threshold.{sum_over, reaches, positive_part, excess, IsKth}
 use Rattle.largest.proofs.Falling.{le_larger, le_larger'}
@@ -52,11 +53,7 @@ sum_of g (v ∷ values) = g v + sum_of g values
 
 module _ (g : ℤ → ℕ) where
   both : (x y : ℤ) → g (larger x y) + g (smaller x y) ≡ g x + g y
-  both x y = by (le_z x y)
-    where
-      by : (t : Bool) → g (cond t y x) + g (cond t x y) ≡ g x + g y
-      by true = omega arith
-      by false = refl
+  both x y = grind arith
 
   sum_insert : (x : ℤ) (values : List ℤ) → sum_of g (insert x values) ≡ g x + sum_of g values
   unfolding sum_of insert
@@ -76,18 +73,10 @@ Falls (v ∷ values) = ((t : ℤ) → le_z t v ≡ false → sum_of (reaches t) 
 
 -- what is over one number is over any that is at most it
 not_reached : (a b t : ℤ) → Le a b → le_z t b ≡ false → le_z t a ≡ false
-not_reached a b t h e = by (le_z t a) refl
-  where
-    by : (r : Bool) → le_z t a ≡ r → r ≡ false
-    by true f = absurd (false≢true (sym e ∙ test_of_le t b (le_then (le_of_test t a f) h)))
-    by false f = refl
+not_reached a b t h e = let f = h.is in grind (arith, ints)
 
 smaller_of : (x y t : ℤ) → le_z t x ≡ false → le_z t y ≡ false → le_z t (smaller x y) ≡ false
-smaller_of x y t h g = by (le_z x y)
-  where
-    by : (r : Bool) → le_z t (cond r x y) ≡ false
-    by true = h
-    by false = g
+smaller_of x y t h g = grind arith
 
 insert_falls : (x : ℤ) (values : List ℤ) → Falls values → Falls (insert x values)
 unfolding Falls insert sum_of
@@ -109,7 +98,7 @@ falling_falls f (suc n) = insert_falls (f n) (falling f n) (falling_falls f n)
 
 -- t + m is over t by m
 difference : (t x : ℤ) (m : ℕ) → x ≡ t +ℤ pos m → x -ℤ t ≡ pos m
-difference t x m e = ap (λ (y : ℤ). y -ℤ t) (e ∙ +ℤ_comm t (pos m)) ∙ +ℤ-neg_ℤ_cancel (pos m) t
+difference t x m e = omega (arith, ints)
 
 -- a number that is at least t is over it by their difference
 excess_is : (t x : ℤ) → le_z t x ≡ true → pos (excess t x) ≡ x -ℤ t
@@ -155,10 +144,7 @@ module _ (t : ℤ) where
 
   -- x = t + (x - t)
   from_threshold : (x q e : ℤ) → x +ℤ (q +ℤ e) ≡ (q +ℤ t) +ℤ ((x -ℤ t) +ℤ e)
-  from_threshold x q e =
-      ap (λ (y : ℤ). y +ℤ (q +ℤ e)) (sym (-ℤ-+ℤ_cancel x t) ∙ +ℤ_comm (x -ℤ t) t)
-      ∙ +ℤ-mix t (x -ℤ t) q e
-      ∙ ap (λ (y : ℤ). y +ℤ ((x -ℤ t) +ℤ e)) (+ℤ_comm t q)
+  from_threshold x q e = omega (arith, ints)
 
   by_threshold : (k : ℕ) (values : List ℤ) → Falls values → k ≤ sum_of (reaches t) values → sum_of (reaches (t +ℤ pos 1)) values ≤ k
       → total (take k values) ≡ (pos k *ℤ t) +ℤ pos (sum_of (excess t) values)

@@ -1,6 +1,6 @@
 -- What is known of a field set. Assumes nothing.
 use mathlib.Core.Path.{◌≡◌, refl, ap, ◌∙◌}
-use mathlib.Core.Bool.{Bool, true, false, false≢true}
+use mathlib.Core.Bool.{Bool, true, false}
 use mathlib.Core.List.{List, [], ◌∷◌}
 use mathlib.Core.Option.{Option, none, some}
 use Prim.Native.Nat.{ℕ, ◌+◌, ◌*◌, ◌/◌, ◌≤◌}
@@ -87,15 +87,6 @@ unfolding challenge_bits
 length_challenge c =
     length-append (digits 8 (length c)) (joined (digits 16) c) ∙ rw (length_digits 8 (length c), length_positions c)
 
--- a form that is given, and one that is not
-pub form_given : {A : Type 0} (form : A → List Bool) {has : Bool} (a : A) → has ≡ true → form_if form (given has a) ≡ form a
-unfolding form_if given
-form_given form a e = rw e
-
-pub form_missing : {A : Type 0} (form : A → List Bool) {has : Bool} (a : A) → has ≡ false → form_if form (given has a) ≡ []
-unfolding form_if given
-form_missing form a e = rw e
-
 -- a list that is missing has no items
 pub form_items : {A : Type 0} (form : A → List Bool) (a : Option (List A)) → form_if (joined form) a ≡ joined form (items_of a)
 unfolding form_if items_of joined
@@ -116,10 +107,10 @@ half_right n (some z) h =
     let t = both_true (eqb (length z) n) (all_within value_limit z) h in
     (t.1, omega (arith, eqb-true (length z) n t.0))
 
-pub few_positions : (n : ℕ) {has : Bool} (c : List ℕ) → IfGiven (λ (l : List ℕ). is_challenge n l ≡ true) (given has c) → has ≡ true → length c ≤ 64
-unfolding given
-few_positions n {has = true} c h e = (challenge_of n c h).few
-few_positions n {has = false} c h e = absurd (false≢true e)
+pub few_positions : (n : ℕ) (c : Option (List ℕ)) → IfGiven (λ (l : List ℕ). is_challenge n l ≡ true) c → length (items_of c) ≤ 64
+unfolding items_of
+few_positions n none h = omega arith
+few_positions n (some c) h = (challenge_of n c h).few
 
 -- ** The most bits of what may be missing
 

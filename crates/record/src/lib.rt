@@ -14,7 +14,8 @@ const PACKED_LENGTHS: [u8; 26] = [
     33, 34,
 ];
 
-// The packed length of a value of this size, in bits; or 0, which is no length, where it is too large.
+// The packed length of a value of this size, in bits; or 0, which is no length, where it is too large. It is no Option: C gets this number.
+#[tactic(auto, using(crate::proofs::Lengths::packed_entry, crate::proofs::Lengths::packed_none))]
 pub fn packed_length(size: u32) -> u8
     ensures { result ≡ packed_length size }
 {

@@ -1,3 +1,4 @@
 pub mod LongestForm
 pub mod Fields
 pub mod ReadLaws
+pub mod Found

@@ -4,20 +4,17 @@
 
 ghost use Rattle.std.specs.Prelude.{◌≡◌, true, not, ◌||◌, ◌+◌, ◌*◌, ◌≤◌, ◌<◌, ◌^◌, length};
 ghost use Rattle.std.proofs.lemmas.List.Edits.{sets};
+ghost use Rattle.std.specs.Bool.{then_some};
 ghost use Rattle.bits.specs.Bits.{bit_at};
 ghost use Rattle.bits.specs.Items.{items_at, behind, each_at, items_of};
 ghost use Rattle.challenge.specs.Challenge.{is_challenge};
 ghost use Rattle.record.specs.Reading.{with_sign, value_at, next_value, is_value, positions_at, challenge_at, has_challenge, count_if};
 ghost use Rattle.record.specs.Reading.{z1_start, fields_of, fields_end, are_fields, is_record};
+ghost use Rattle.refused.specs.Refusals.{number};
 ghost use Rattle.record_reader.specs.Call.{contents_of, no_contents, have_room, after_read, read_left};
+ghost use Rattle.record_reader.specs.Checked.{to_read, answer_of};
 
-// What stands in bytes as a value of z: the value, whether it may stand in a record, and then the place behind it.
-#[derive(Clone, Copy)]
-struct Value {
-    value: i32,
-    right: bool,
-    next: usize,
-}
+use refused::Refusal;
 
 // A value by its sign and size.
 fn with_sign(minus: bool, size: u32) -> i32
@@ -27,90 +24,68 @@ fn with_sign(minus: bool, size: u32) -> i32
     signed::times_sign(size as i32, signed::sign_of(minus as u64))
 }
 
-// The value of z that stands in bytes at a place: its longest form is one number, of a sign bit, seven low bits and 26 more.
-fn value_at(bytes: &[u8], at: usize) -> Value
+// The value of z that stands in bytes at a place, and the place behind it, if it may stand in a record. Its longest form is one number, of
+// a sign bit, seven low bits and 26 more.
+fn value_at(bytes: &[u8], at: usize) -> Option<(i32, usize)>
     requires { at < 2 ^ 20 }
-    ensures value { (result.value ≡ value_at (bit_at bytes.now) at)
-        × (result.right ≡ is_value (bit_at bytes.now) at) }
-    ensures next { result.right ≡ true → result.next ≡ next_value (bit_at bytes.now) at }
+    ensures { result
+        ≡ then_some (is_value (bit_at bytes.now) at) (value_at (bit_at bytes.now) at, next_value (bit_at bytes.now) at) }
 {
     let form = bits::number_at(bytes, at, 34);
     let minus = form >> 33 == 1;
     let low = ((form >> 26) % 128) as u32;
     let zeros = u64::leading_zeros(form % (1 << 26)) - 38;
     let size = low + 128 * zeros;
-    Value {
-        value: with_sign(minus, size),
-        right: (size <= record::VALUE_LIMIT) & !(minus & (size == 0)),
-        next: at + record::packed_length(size) as usize,
+    if (record::VALUE_LIMIT < size) | (minus & (size == 0)) {
+        return None;
     }
+    Some((
+        with_sign(minus, size),
+        at + record::packed_length(size) as usize,
+    ))
 }
 
-// What was found in bytes: whether it may stand in a record, and then the place behind it.
-#[derive(Clone, Copy)]
-struct Found {
-    right: bool,
-    end: usize,
-}
-
-// Whether so many values of z stand in bytes from a place on, and then the place behind them.
-fn values_at(bytes: &[u8], at: usize, count: usize) -> Found
+// The place behind so many values of z, if they stand in bytes from a place on.
+fn values_end(bytes: &[u8], at: usize, count: usize) -> Option<usize>
     requires { (at < 2 ^ 18) × (count ≤ 1024) }
-    ensures right { result.right ≡ each_at (is_value (bit_at bytes.now)) (next_value (bit_at bytes.now)) at count }
-    ensures end { result.right ≡ true → result.end ≡ behind (next_value (bit_at bytes.now)) at count }
+    ensures { result
+        ≡ then_some (each_at (is_value (bit_at bytes.now)) (next_value (bit_at bytes.now)) at count)
+        (behind (next_value (bit_at bytes.now)) at count) }
 {
     let mut place = at;
-    let mut i: usize = 0;
-    while i < count {
-        let v = value_at(bytes, place);
-        if !v.right {
-            return Found {
-                right: false,
-                end: 0,
-            };
-        }
-        place = v.next;
-        i += 1;
+    for _ in 0..count {
+        let (_, next) = value_at(bytes, place)?;
+        place = next;
     }
-    Found {
-        right: true,
-        end: place,
-    }
+    Some(place)
 }
 
-// Writes so many values of z, which stand in bytes from a place on, to the start of an output, the rest of which is unchanged. Gives the
-// place behind them.
-fn get_values(bytes: &[u8], at: usize, count: usize, z: &mut [i32]) -> usize
-    requires in_bounds { (at < 2 ^ 18) × (count ≤ 1024) × (count ≤ length z.old) }
-    requires right { each_at (is_value (bit_at bytes.now)) (next_value (bit_at bytes.now)) at count ≡ true }
-    ensures value { result ≡ behind (next_value (bit_at bytes.now)) at count }
-    ensures z_after { z.new ≡ sets z.old 0
-        (items_at (value_at (bit_at bytes.now)) (next_value (bit_at bytes.now)) at count) }
+// Fills a list with the values of z that stand in bytes from a place on. Gives the place behind them.
+fn get_values(bytes: &[u8], at: usize, z: &mut [i32]) -> usize
+    requires in_bounds { (at < 2 ^ 18) × (length z.old ≤ 1024) }
+    requires right { each_at (is_value (bit_at bytes.now)) (next_value (bit_at bytes.now)) at (length z.old) ≡ true }
+    ensures value { result ≡ behind (next_value (bit_at bytes.now)) at (length z.old) }
+    ensures z_after { z.new
+        ≡ items_at (value_at (bit_at bytes.now)) (next_value (bit_at bytes.now)) at (length z.old) }
 {
     let mut place = at;
-    let mut i: usize = 0;
-    while i < count {
-        let v = value_at(bytes, place);
-        let value = v.value;
-        z[i] = value;
-        place = v.next;
-        i += 1;
+    for x in z.iter_mut() {
+        let (value, next) = value_at(bytes, place).unwrap();
+        *x = value;
+        place = next;
     }
     place
 }
 
-// Writes so many positions, which stand in bytes from a place on, to the start of an output, the rest of which is unchanged.
-fn get_positions(bytes: &[u8], at: usize, count: usize, challenge: &mut [u32])
-    requires { (at < 2 ^ 18) × (count ≤ 255) × (count ≤ length challenge.old) }
-    ensures { challenge.new ≡ sets challenge.old 0 (positions_at (bit_at bytes.now) at count) }
+// Fills a list with the positions that stand in bytes from a place on.
+fn get_positions(bytes: &[u8], at: usize, challenge: &mut [u32])
+    requires { (at < 2 ^ 18) × (length challenge.old ≤ 255) }
+    ensures { challenge.new ≡ positions_at (bit_at bytes.now) at (length challenge.old) }
 {
     let mut place = at;
-    let mut i: usize = 0;
-    while i < count {
-        let position = bits::number_at(bytes, place, 16) as u32;
-        challenge[i] = position;
+    for position in challenge.iter_mut() {
+        *position = bits::number_at(bytes, place, 16) as u32;
         place += 16;
-        i += 1;
     }
 }
 
@@ -123,8 +98,9 @@ fn is_challenge_at(bytes: &[u8], n: usize) -> bool
         return false;
     }
     let mut positions = [0u32; challenge::MOST_POSITIONS];
-    get_positions(bytes, 32, count, &mut positions);
-    challenge::is_challenge(n, &positions[..count])
+    let positions = &mut positions[..count];
+    get_positions(bytes, 32, positions);
+    challenge::is_challenge(n, positions)
 }
 
 // The same, if its bit stands.
@@ -132,20 +108,14 @@ fn challenge_passes(bytes: &[u8], n: usize) -> bool
     ensures { result ≡ (not (has_challenge (bit_at bytes.now))
         || is_challenge n (challenge_at (bit_at bytes.now) 24)) }
 {
-    if !bits::bit_at(bytes, 7) {
-        return true;
-    }
-    is_challenge_at(bytes, n)
+    !bits::bit_at(bytes, 7) || is_challenge_at(bytes, n)
 }
 
-// A count, or 0.
+// A count, or 0, which C gets for a field that is not there.
 fn count_if(has: bool, count: usize) -> usize
     ensures { result ≡ count_if has count }
 {
-    if has {
-        return count;
-    }
-    0
+    if has { count } else { 0 }
 }
 
 // Where the values of z start in bytes.
@@ -153,51 +123,40 @@ fn z1_start(bytes: &[u8]) -> usize
     ensures { (result ≡ z1_start (bit_at bytes.now)) × (result ≤ 4112) }
 {
     if bits::bit_at(bytes, 7) {
-        return 32 + 16 * (bits::number_at(bytes, 24, 8) as usize);
+        32 + 16 * (bits::number_at(bytes, 24, 8) as usize)
+    } else {
+        24
     }
-    24
 }
 
-// Whether what stands in bytes as fields are fields, and then where they end.
-fn are_fields(bytes: &[u8]) -> Found
-    ensures right { result.right ≡ are_fields (bit_at bytes.now) }
-    ensures end { result.right ≡ true → result.end ≡ fields_end (bit_at bytes.now) }
+// Where what stands in bytes as fields ends, if they are fields.
+fn fields_end(bytes: &[u8]) -> Option<usize>
+    ensures { result ≡ then_some (are_fields (bit_at bytes.now)) (fields_end (bit_at bytes.now)) }
 {
     let n = bits::number_at(bytes, 8, 16) as usize;
     if !checks::is_degree(n) {
-        return Found {
-            right: false,
-            end: 0,
-        };
+        return None;
     }
     if !challenge_passes(bytes, n) {
-        return Found {
-            right: false,
-            end: 0,
-        };
+        return None;
     }
-    let z1 = values_at(bytes, z1_start(bytes), count_if(bits::bit_at(bytes, 6), n));
-    if !z1.right {
-        return z1;
-    }
-    values_at(bytes, z1.end, count_if(bits::bit_at(bytes, 5), n))
+    let z2_start = values_end(bytes, z1_start(bytes), count_if(bits::bit_at(bytes, 6), n))?;
+    values_end(bytes, z2_start, count_if(bits::bit_at(bytes, 5), n))
 }
 
 // Whether bytes are a record.
 fn is_record(bytes: &[u8]) -> bool
     ensures { result ≡ is_record bytes.now }
 {
-    let fields = are_fields(bytes);
-    if !fields.right {
+    let Some(end) = fields_end(bytes) else {
         return false;
-    }
-    let end = fields.end;
+    };
     let others = bits::number_at(bytes, 0, 5);
     let padding = bits::number_at(bytes, end, 8);
     (others == 0) & ((padding == 0) & (bytes.len() == (end + 7) / 8))
 }
 
-// What a read answers: its refusal, or 0 with n, the bit map and the lengths of the fields.
+// What a read answers to C, by value: its refusal, or 0 with n, the bit map and the lengths of the fields.
 #[repr(C)]
 #[derive(Clone, Copy)]
 pub struct Contents {
@@ -210,11 +169,11 @@ pub struct Contents {
 }
 
 // The answer of a read that is refused.
-fn refuse(refusal: u32) -> Contents
-    ensures { result ≡ no_contents refusal }
+fn refuse(refusal: Refusal) -> Contents
+    ensures { result ≡ no_contents (number refusal) }
 {
     Contents {
-        refusal,
+        refusal: refusal.number(),
         map: 0,
         degree: 0,
         positions: 0,
@@ -260,9 +219,43 @@ fn get_fields(
     ensures z1_after { z1.new ≡ sets z1.old 0 (items_of (fields_of (bit_at bytes.now)).z1) }
     ensures z2_after { z2.new ≡ sets z2.old 0 (items_of (fields_of (bit_at bytes.now)).z2) }
 {
-    get_positions(bytes, 32, contents.positions, challenge);
-    let next = get_values(bytes, z1_start(bytes), contents.z1, z1);
-    get_values(bytes, next, contents.z2, z2);
+    get_positions(bytes, 32, &mut challenge[..contents.positions]);
+    let z2_start = get_values(bytes, z1_start(bytes), &mut z1[..contents.z1]);
+    get_values(bytes, z2_start, &mut z2[..contents.z2]);
+}
+
+// The contents of a record, for each field of which there is room in an output of this length.
+fn contents_to_read(
+    bytes: &[u8],
+    challenge: usize,
+    z1: usize,
+    z2: usize,
+) -> Result<Contents, Refusal>
+    ensures { result ≡ to_read bytes.now challenge z1 z2 }
+{
+    if !is_record(bytes) {
+        return Err(Refusal::Record);
+    }
+    let contents = contents_of(bytes);
+    if (challenge < contents.positions) | (z1 < contents.z1) | (z2 < contents.z2) {
+        return Err(Refusal::Output);
+    }
+    Ok(contents)
+}
+
+// Reads a record, each of its fields to the start of its output.
+fn read_fields(
+    bytes: &[u8],
+    challenge: &mut [u32],
+    z1: &mut [i32],
+    z2: &mut [i32],
+) -> Result<Contents, Refusal>
+    ensures { after_read (answer_of result) challenge.new z1.new z2.new
+        ≡ read_left bytes.now challenge.old z1.old z2.old }
+{
+    let contents = contents_to_read(bytes, challenge.len(), z1.len(), z2.len())?;
+    get_fields(bytes, contents, challenge, z1, z2);
+    Ok(contents)
 }
 
 // Reads a record: each of its fields goes to the start of its output, the rest of which is unchanged.
@@ -270,16 +263,5 @@ pub fn read(bytes: &[u8], challenge: &mut [u32], z1: &mut [i32], z2: &mut [i32])
     ensures { after_read result challenge.new z1.new z2.new
         ≡ read_left bytes.now challenge.old z1.old z2.old }
 {
-    if !is_record(bytes) {
-        return refuse(refused::RECORD);
-    }
-    let contents = contents_of(bytes);
-    if (challenge.len() < contents.positions)
-        | (z1.len() < contents.z1)
-        | (z2.len() < contents.z2)
-    {
-        return refuse(refused::OUTPUT);
-    }
-    get_fields(bytes, contents, challenge, z1, z2);
-    contents
+    read_fields(bytes, challenge, z1, z2).unwrap_or_else(refuse)
 }

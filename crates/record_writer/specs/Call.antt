@@ -1,7 +1,6 @@
 -- The writer of request S-3: what a write answers, and what it leaves. Assumes nothing.
-use Rattle.std.specs.Prelude.{Bool, false, cond, ◌&&◌, List, [], ◌∷◌, ◌++◌, ℕ, leb, eqb, ℤ, length, replicate}
+use Rattle.std.specs.Prelude.{cond, ◌&&◌, List, [], ◌∷◌, ℕ, leb, eqb, ℤ, length}
 use Rattle.std.proofs.lemmas.List.Edits.{sets}
-use Rattle.bits.specs.Bits.{digits}
 use Rattle.bits.specs.Items.{given, passes}
 use Rattle.checks.specs.Checks.{is_degree, Line, line, first_refusal}
 use Rattle.challenge.specs.Challenge.{is_challenge}
@@ -56,9 +55,3 @@ write_served f out = after_write (answer 0 (length (record_of f))) (sets out 0 (
 
 unfoldable pub write_left : (f : FieldSet) (out : List ℕ) → WriteLeft
 write_left f out = cond (eqb (write_refusal f (length out)) 0) (write_served f out) (write_refused (write_refusal f (length out)) out)
-
--- ** What the code goes by
-
--- the bit map and n, as they are put
-abbrev pub header_bits : (n : ℕ) (fields : Fields) → List Bool
-header_bits n fields = (replicate 5 false ++ (fields.z2 ∷ (fields.z1 ∷ (fields.challenge ∷ [])))) ++ digits 16 n

@@ -1,3 +1,4 @@
+pub mod Few
 pub mod Served
 pub mod FirstRefusal
 pub mod AsBefore

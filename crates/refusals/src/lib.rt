@@ -2,22 +2,27 @@
 #![tactic(auto)]
 
 ghost use Rattle.std.specs.Prelude.{◌≡◌};
+ghost use Rattle.refused.specs.Refusals.{refusal_of};
 ghost use Rattle.refusals.specs.Refusals.{open_refusal, draw_refusal, noise_refusal, respond_refusal};
 
-// The first refusal of an opening that applies, or 0.
-pub fn open_refusal(n: usize, deviation: u64) -> u32
-    ensures { result ≡ open_refusal n deviation }
+use refused::Refusal;
+
+// The first refusal of an opening that applies.
+#[tactic(auto, unfolding(crate::specs::Refusals::open_refusal, checks::specs::Checks::first_refusal))]
+pub fn open_refusal(n: usize, deviation: u64) -> Result<(), Refusal>
+    ensures { refusal_of result ≡ open_refusal n deviation }
 {
     if !checks::is_degree(n) {
-        return refused::DEGREE;
+        return Err(Refusal::Degree);
     }
     if !deviations::is_deviation(deviation) {
-        return refused::DEVIATION;
+        return Err(Refusal::Deviation);
     }
-    0
+    Ok(())
 }
 
-// The first refusal of a draw that applies, or 0. Sizes are multiplied only after their factors are found small.
+// The first refusal of a draw that applies. Sizes are multiplied only after their factors are found small.
+#[tactic(auto, using(crate::proofs::Few::few), unfolding(crate::specs::Refusals::draw_refusal, checks::specs::Checks::first_refusal))]
 pub fn draw_refusal(
     n: usize,
     deviation: u64,
@@ -27,42 +32,43 @@ pub fn draw_refusal(
     words: usize,
     y: usize,
     list: usize,
-) -> u32
-    ensures { result ≡ draw_refusal n deviation limit cdt.now polynomial.now words y list }
+) -> Result<(), Refusal>
+    ensures { refusal_of result ≡ draw_refusal n deviation limit cdt.now polynomial.now words y list }
 {
     if !checks::is_degree(n) {
-        return refused::DEGREE;
+        return Err(Refusal::Degree);
     }
     if !deviations::is_deviation(deviation) {
-        return refused::DEVIATION;
+        return Err(Refusal::Deviation);
     }
     if (cdt.len() != base_sample::CDT_WORDS)
         | (polynomial.len() != exponential::POLYNOMIAL_WORDS)
         | (y != 2 * n)
     {
-        return refused::LENGTHS;
+        return Err(Refusal::Lengths);
     }
     let cdt_right = base_sample::is_cdt(cdt);
     let polynomial_right = exponential::is_polynomial(polynomial);
     if !cdt_right {
-        return refused::CDT;
+        return Err(Refusal::Cdt);
     }
     if !polynomial_right {
-        return refused::POLYNOMIAL;
+        return Err(Refusal::Polynomial);
     }
     if (limit < 2 * n) | (32 * n < limit) {
-        return refused::LIMIT;
+        return Err(Refusal::Limit);
     }
     if words < attempt::WORDS * limit {
-        return refused::WORDS;
+        return Err(Refusal::Words);
     }
     if list < attempt::ENTRIES * limit + sampler::OTHER_ENTRIES {
-        return refused::LIST;
+        return Err(Refusal::List);
     }
-    0
+    Ok(())
 }
 
-// The first refusal of a respond that applies, or 0.
+// The first refusal of a respond that applies.
+#[tactic(auto, using(crate::proofs::Few::few), unfolding(crate::specs::Refusals::respond_refusal, checks::specs::Checks::first_refusal))]
 pub fn respond_refusal(
     n: usize,
     deviation: u64,
@@ -74,19 +80,19 @@ pub fn respond_refusal(
     y: &[i32],
     z: usize,
     list: usize,
-) -> u32
-    ensures { result
+) -> Result<(), Refusal>
+    ensures { refusal_of result
         ≡ respond_refusal n deviation drawn challenge.now polynomial.now words key.now y.now z
         list }
 {
     if !checks::is_degree(n) {
-        return refused::DEGREE;
+        return Err(Refusal::Degree);
     }
     if !deviations::is_deviation(deviation) {
-        return refused::DEVIATION;
+        return Err(Refusal::Deviation);
     }
     if deviation != deviations::BLISS_I {
-        return refused::RESPONSE_DEVIATION;
+        return Err(Refusal::ResponseDeviation);
     }
     let both = 2 * n;
     if (polynomial.len() != exponential::POLYNOMIAL_WORDS)
@@ -94,37 +100,36 @@ pub fn respond_refusal(
         | (z != both)
         | (key.len() != both)
     {
-        return refused::LENGTHS;
+        return Err(Refusal::Lengths);
     }
     if !exponential::is_polynomial(polynomial) {
-        return refused::POLYNOMIAL;
+        return Err(Refusal::Polynomial);
     }
     if !challenge::are_positions(n, challenge) {
-        return refused::CHALLENGE;
+        return Err(Refusal::Challenge);
     }
     if words < response::WORDS {
-        return refused::WORDS;
+        return Err(Refusal::Words);
     }
-    let list_short = list < both * challenge.len() + response::OTHER_ENTRIES;
-    if list_short {
-        return refused::LIST;
+    if list < both * challenge.len() + response::OTHER_ENTRIES {
+        return Err(Refusal::List);
     }
     noise_refusal(drawn, key, y)
 }
 
-// The first of refusals 9 to 11 that applies, or 0. Key and y are looked at whole, and whether y is small is joined with whether the key
+// The first of refusals 9 to 11 that applies. Key and y are looked at whole, and whether y is small is joined with whether the key
 // is: a branch on y alone would tell of y where the key is refused.
-fn noise_refusal(drawn: u64, key: &[i32], y: &[i32]) -> u32
-    ensures { result ≡ noise_refusal drawn key.now y.now }
+#[tactic(auto, unfolding(crate::specs::Refusals::noise_refusal, checks::specs::Checks::first_refusal))]
+fn noise_refusal(drawn: u64, key: &[i32], y: &[i32]) -> Result<(), Refusal>
+    ensures { refusal_of result ≡ noise_refusal drawn key.now y.now }
 {
     if drawn != 1 {
-        return refused::NOT_DRAWN;
+        return Err(Refusal::NotDrawn);
     }
     let key_small = signed::all_within(key, challenge_product::KEY_BOUND);
     let y_small = signed::all_within(y, response::NOISE_BOUND);
     if key_small & y_small {
-        return 0;
+        return Ok(());
     }
-    // The refusal after that of the key, where the key is small: then y is not.
-    refused::KEY + key_small as u32
+    Err(if key_small { Refusal::Y } else { Refusal::Key })
 }

@@ -1,11 +1,17 @@
 // Sessions: a degree, a deviation, and whether y is drawn. Each call takes the session by value, and hands back the next one with its
-// answer.
+// answer. The structs are those of the C interface: so a refusal is a number in them, and 0 is a call that is served.
 #![tactic(auto)]
 
 ghost use Rattle.std.specs.Prelude.{◌≡◌, ◌≤◌};
+ghost use Rattle.refused.specs.Refusals.{number};
 ghost use Rattle.session.specs.Calls.{fresh, opened, draw_of, after_draw, drawn_refused, drawn_served, draw_left};
 ghost use Rattle.session.specs.Calls.{respond_of, after_respond, responded_refused, responded_served, respond_left};
 
+use attempt::Tables;
+use base_sample::Cdt;
+use challenge_product::Factors;
+use exponential::Exponential;
+use refused::Refusal;
 use response::Answer;
 use sampler::Counts;
 
@@ -66,16 +72,15 @@ impl Session {
     pub fn open(n: usize, deviation: u64) -> Opened
         ensures { result ≡ opened n deviation }
     {
-        let refusal = refusals::open_refusal(n, deviation);
-        if refusal != 0 {
-            return Opened {
-                refusal,
+        match refusals::open_refusal(n, deviation) {
+            Err(refusal) => Opened {
+                refusal: refusal.number(),
                 session: Session::fresh(0, 0),
-            };
-        }
-        Opened {
-            refusal,
-            session: Session::fresh(n, deviation),
+            },
+            Ok(()) => Opened {
+                refusal: 0,
+                session: Session::fresh(n, deviation),
+            },
         }
     }
 
@@ -106,7 +111,7 @@ impl Session {
             y.old list.old) }
     {
         let n = self.degree;
-        let refusal = refusals::draw_refusal(
+        let tests = refusals::draw_refusal(
             n,
             self.deviation,
             limit,
@@ -116,12 +121,19 @@ impl Session {
             y.len(),
             list.len(),
         );
-        if refusal != 0 {
-            return self.drawn_refused(refusal);
+        match tests {
+            Err(refusal) => self.drawn_refused(refusal),
+            Ok(()) => {
+                let cdt = Cdt { words: cdt };
+                let exponential = Exponential {
+                    table: polynomial,
+                    reciprocal: deviations::reciprocal_at(self.deviation),
+                };
+                let tables = Tables { cdt, exponential };
+                let counts = sampler::draw(n, limit, tables, words, y, list);
+                self.drawn_served(counts)
+            },
         }
-        let reciprocal = deviations::reciprocal_at(self.deviation);
-        let counts = sampler::draw(n, limit, cdt, polynomial, reciprocal, words, y, list);
-        self.drawn_served(counts)
     }
 
     // Responds to a challenge, at BLISS-I's deviation alone: z holds y and the product of the key with the challenge, added or subtracted,
@@ -142,7 +154,7 @@ impl Session {
             key.now y.old z.old list.old) }
     {
         let n = self.degree;
-        let refusal = refusals::respond_refusal(
+        let tests = refusals::respond_refusal(
             n,
             self.deviation,
             self.drawn,
@@ -154,30 +166,31 @@ impl Session {
             z.len(),
             list.len(),
         );
-        if refusal != 0 {
-            return self.responded_refused(refusal);
+        match tests {
+            Err(refusal) => self.responded_refused(refusal),
+            Ok(()) => {
+                let factors = Factors {
+                    key,
+                    challenge,
+                    degree: n,
+                };
+                let exponential = Exponential {
+                    table: polynomial,
+                    reciprocal: exponential::RECIPROCAL_215,
+                };
+                let answer = response::respond(factors, exponential, words, y, z, list);
+                self.responded_served(answer)
+            },
         }
-        let answer = response::respond(
-            n,
-            challenge,
-            polynomial,
-            exponential::RECIPROCAL_215,
-            words,
-            key,
-            y,
-            z,
-            list,
-        );
-        self.responded_served(answer)
     }
 
     // What a refused draw hands back: no counts, and the same session.
-    fn drawn_refused(self, refusal: u32) -> Drawn
-        ensures { result ≡ drawn_refused refusal self }
+    fn drawn_refused(self, refusal: Refusal) -> Drawn
+        ensures { result ≡ drawn_refused (number refusal) self }
     {
         Drawn {
             answer: DrawAnswer {
-                refusal,
+                refusal: refusal.number(),
                 attempts: 0,
                 accepted: 0,
                 entries: 0,
@@ -208,12 +221,12 @@ impl Session {
     }
 
     // What a refused respond hands back: no bit, no count, and the same session.
-    fn responded_refused(self, refusal: u32) -> Responded
-        ensures { result ≡ responded_refused refusal self }
+    fn responded_refused(self, refusal: Refusal) -> Responded
+        ensures { result ≡ responded_refused (number refusal) self }
     {
         Responded {
             answer: RespondAnswer {
-                refusal,
+                refusal: refusal.number(),
                 bit: false,
                 entries: 0,
             },

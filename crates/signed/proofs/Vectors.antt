@@ -1,5 +1,5 @@
 -- Laws of ranges of vectors, and of sums over them. Assumes nothing.
-use mathlib.Core.Path.{◌≡◌, refl, sym, ap, ◌∙◌}
+use mathlib.Core.Path.{◌≡◌, refl}
 use mathlib.Core.Bool.{true, and-eq-true_iff}
 use mathlib.Core.List.{List, [], ◌∷◌, ◌++◌}
 use mathlib.Core.Logic.{◌↔◌}
@@ -7,10 +7,11 @@ use Prim.Native.Nat.{ℕ, zero, suc, ◌+◌, ◌*◌, ◌≤◌, ◌<◌}
 use native.Mathlib.Nat.{mul-le-mul, suc_inj}
 use native.Mathlib.Omega.{arith}
 use lib.Dec.{leb}
-use lib.IntN.{ℤ, pos, nat_abs, ◌+ℤ◌, ◌*ℤ◌, +ℤ_idl, +ℤ_idr, +ℤ_assoc}
+use lib.IntN.{ℤ, pos, nat_abs, ◌*ℤ◌}
 use lib.ListN.{length, get_or, take, drop, replicate}
 use lib.Seq.{get_or-take}
 use borrow.Author.Tests.{leb-true, le-leb}
+use Rattle.std.proofs.lemmas.Int.{ints}
 use Rattle.signed.specs.Vectors.{all_within, square_sum, inner_product, SquaresByOneMore, ProductsByOneMore}
 use Rattle.signed.proofs.Signs.{abs_add, abs_mul}
 
@@ -91,11 +92,10 @@ squares_by_one_more values v = omega (arith, squares_append values (v ∷ []))
 
 pub products_by_one_more : ProductsByOneMore
 unfolding inner_product
-products_by_one_more [] [] v w l = +ℤ_idr (v *ℤ w) ∙ sym (+ℤ_idl (v *ℤ w))
+products_by_one_more [] [] v w l = omega (arith, ints)
 products_by_one_more [] (y ∷ b) v w l = absurd (omega arith)
 products_by_one_more (x ∷ a) [] v w l = absurd (omega arith)
-products_by_one_more (x ∷ a) (y ∷ b) v w l =
-    ap (λ (sum : ℤ). (x *ℤ y) +ℤ sum) (products_by_one_more a b v w (suc_inj l)) ∙ sym (+ℤ_assoc (x *ℤ y) (inner_product a b) (v *ℤ w))
+products_by_one_more (x ∷ a) (y ∷ b) v w l = omega (arith, ints, products_by_one_more a b v w (suc_inj l))
 
 pub inner_within : (p q : ℕ) (a b : List ℤ) → all_within p a ≡ true → all_within q b ≡ true → nat_abs (inner_product a b) ≤ p * q * length b
 unfolding inner_product

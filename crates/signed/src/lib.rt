@@ -5,7 +5,7 @@ ghost use Rattle.std.specs.Prelude.{◌≡◌, cond, ◌+◌, ◌*◌, ◌^◌, 
 ghost use Rattle.signed.specs.Signs.{sign};
 ghost use Rattle.signed.specs.Vectors.{all_within};
 
-// The sign that a bit stands for: -1 for 1, and 1 for 0.
+// The sign that a bit stands for: -1 for 1, and 1 for 0. By arithmetic, since a `match` may become a jump.
 pub fn sign_of(bit: u64) -> i32
     requires { bit < 2 }
     ensures { (result ≡ sign (eqb bit 1)) × (nat_abs result ≤ 1) }
@@ -45,7 +45,7 @@ pub fn plus_product(sum: i64, a: i32, b: i32) -> i64
     sum + (a * b) as i64
 }
 
-// The size of a number: the number without its sign.
+// The size of a number: the number without its sign. Not by `unsigned_abs`, which has an `if` on the sign.
 pub fn size_of(value: i64) -> u64
     requires { nat_abs value < 2 ^ 62 }
     ensures { result ≡ nat_abs value }
@@ -62,11 +62,8 @@ pub fn all_within(values: &[i32], bound: u32) -> bool
     let high = bound as i32;
     let low = 0 - high;
     let mut outside = false;
-    let mut i: usize = 0;
-    while i < values.len() {
-        let v = values[i];
-        outside = outside | ((v < low) | (high < v));
-        i += 1;
+    for &v in values {
+        outside |= (v < low) | (high < v);
     }
     !outside
 }
@@ -82,11 +79,8 @@ pub fn kept(value: i32, keep: bool) -> i32
 pub fn keep_all(values: &mut [i32], keep: bool)
     ensures { values.new ≡ cond keep values.old (replicate (length values.old) (pos 0)) }
 {
-    let mut i: usize = 0;
-    while i < values.len() {
-        let v = kept(values[i], keep);
-        values[i] = v;
-        i += 1;
+    for v in values.iter_mut() {
+        *v = kept(*v, keep);
     }
 }
 
@@ -94,9 +88,5 @@ pub fn keep_all(values: &mut [i32], keep: bool)
 pub fn zero_all(values: &mut [i32])
     ensures { values.new ≡ replicate (length values.old) (pos 0) }
 {
-    let mut i: usize = 0;
-    while i < values.len() {
-        values[i] = 0;
-        i += 1;
-    }
+    values.fill(0);
 }

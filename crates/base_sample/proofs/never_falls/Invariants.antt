@@ -1,7 +1,7 @@
 use mathlib.Core.Path.{◌≡◌}
 use mathlib.Core.Bool.{Bool, true}
 use mathlib.Core.List.{List}
-use Prim.Native.Nat.{ℕ, suc, ◌≤◌, ◌-◌}
+use Prim.Native.Nat.{ℕ, suc}
 use lib.Dec.{leb}
 use Rattle.checks.specs.Checks.{all_below}
 use Rattle.base_sample.specs.BaseSample.{threshold}
@@ -11,7 +11,4 @@ abbrev pub rises : (cdt : List ℕ) (i : ℕ) → Bool
 rises cdt i = leb (threshold cdt i) (threshold cdt (suc i))
 
 abbrev pub invariant-loop-i : goal.invariant-loop-i
-invariant-loop-i l = (l.i ≤ 9) × (all_below (rises l.cdt) l.i ≡ true)
-
-abbrev pub decreases-loop-i : goal.decreases-loop-i
-decreases-loop-i l = 9 - l.i
+invariant-loop-i l = all_below (rises l.cdt) l.i ≡ true

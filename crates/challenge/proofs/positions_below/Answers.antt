@@ -1,32 +1,24 @@
--- `challenge::positions_below` meets its contract: the positions before k are below n. Assumes nothing.
-use native.Mathlib.Omega.{arith}
-use mathlib.Core.Path.{sym}
-use lib.ListN.{get_or}
-use borrow.Author.Tests.{le-ltb, lt-ltb}
-use Rattle.checks.proofs.AllBelow.{all_none, all_more, all_broken, all_done}
+-- `challenge::positions_below` meets its contract. Assumes nothing.
+use Rattle.std.proofs.Common.{arith, rules, tests, refl, Bool, true, false, Decides, MatchBool, ℕ, ◌<◌, ◌≤◌, List, length, get_or}
+use Rattle.std.specs.List.{AllWithin, HoldsAt}
+use Rattle.std.proofs.lemmas.Bool.{false≢true}
+use Rattle.std.proofs.lemmas.Bool.Decides.{same_from_decides, Decides-ltb}
+use Rattle.std.proofs.lemmas.Iterator.{cases_from_all, YieldsList-from_slice}
 use Rattle.challenge.specs.Challenge.{positions_below}
-use Rattle.challenge.proofs.positions_below.Invariants.{is_below}
+use Rattle.challenge.proofs.Positions.{all_decides}
 use Rattle.challenge.proofs.positions_below.Goals as goal
 
--- ** What the code asks for
-
-pub loop-k-init : goal.loop-k-init
-loop-k-init c = (omega arith, all_none _)
-
-pub returns-then-n-challenge : goal.returns-then-n-challenge
-unfolding positions_below
-returns-then-n-challenge c =
-    let a = c.args in
-    let k = c.loop-k.k in
-    sym (all_broken (is_below a.n a.challenge.now) k _ (omega arith) (le-ltb (get_or a.challenge.now k 0) a.n (omega arith)))
-
-pub loop-k-preserved : goal.loop-k-preserved
-loop-k-preserved c =
-    let a = c.args in
-    let t = c.loop-k in
-    let next = lt-ltb (get_or a.challenge.now t.k 0) a.n (omega arith) in
-    (omega arith, all_more (is_below a.n a.challenge.now) t.k t.invariant.1 next)
+decided : (r : Bool) (xs : List ℕ) (n : ℕ)
+    → MatchBool r (AllWithin (λ x. x < n) xs 0 (length xs)) ((k : ℕ) × (k < length xs) × HoldsAt (λ x. n ≤ x) xs k)
+    → Decides r ((k : ℕ) → k < length xs → get_or xs k 0 < n)
+decided true xs n h = (λ e k g. h k 0 (omega arith) g, λ all. refl)
+decided false xs n h = (λ e. absurd (false≢true e), λ all. absurd (omega (arith, h.2 0, all h.0 h.1)))
 
 pub returns : goal.returns
 unfolding positions_below
-returns c = all_done _ _ _ c.loop-k.invariant.0 c.loop-k-test.false c.loop-k.invariant.1
+returns c =
+    let xs = c.args.challenge.now in
+    let n = c.args.n in
+    let cases = cases_from_all _ _ c.all.result (λ x. x < n) (λ x. n ≤ x) c.all.ensures.ran (YieldsList-from_slice xs cc)
+    (λ x q k. search (rules, tests)) (λ x q k. search (rules, tests)) in
+    same_from_decides _ _ (decided _ xs n cases) (all_decides _ _ (length xs) (λ k. Decides-ltb (get_or xs k 0) n))

@@ -12,18 +12,16 @@ at_215 : (n : ℕ) → n ≤ limit → exp_scaled polynomial 3269134179596076729
 unfolding exp
 at_215 n h = rw (by_215 polynomial) (sym ((exponential_alone n).up_to h))
 
--- ** What the code asks for
-
 pub returns-then-n-gt-LIMIT : goal.returns-then-n-gt-LIMIT
 returns-then-n-gt-LIMIT c = sym ((exponential_alone c.args.n).above c.if-n-gt-LIMIT.true)
 
-pub evaluate_unlisted-a-requires : goal.evaluate_unlisted-a-requires
+pub evaluate-a-requires : goal.evaluate-a-requires
 unfolding polynomial entries_from factorial
-evaluate_unlisted-a-requires c = (refl, omega (arith, c.mul_shift22-v.ensures, c.if-n-gt-LIMIT.false))
+evaluate-a-requires c = (refl, omega (arith, c.mul_shift22-v.ensures, c.if-n-gt-LIMIT.false), omega arith)
 
 pub returns : goal.returns
 unfolding polynomial entries_from factorial
 returns c =
     let n = c.args.n in
-    exp_in_steps polynomial 3269134179596076729 n c.mul_shift22-v.ensures c.evaluate_unlisted-a.ensures.0 c.power64.ensures.0
+    exp_in_steps polynomial 3269134179596076729 n c.mul_shift22-v.ensures c.evaluate-a.ensures.0 c.power64.ensures.0
     ∙ at_215 n c.if-n-gt-LIMIT.false

@@ -1,71 +1,96 @@
 -- `key_check::half_inner` meets its contract: from place c on the rotation is direct, and before it wraps. Assumes nothing.
-use mathlib.Core.Path.{◌≡◌, ap₂, ◌∙◌}
-use Prim.Native.Nat.{◌*◌, ◌≤◌}
-use native.Mathlib.Omega.{arith}
-use lib.IntN.{ℤ, neg_ℤ, nat_abs, ◌-ℤ◌}
+use Rattle.std.proofs.Common.{arith, ◌≡◌, ◌≤◌, ◌<◌, ◌+◌, ◌-◌, ◌*◌, length, get_or, take, drop, ℕ, List, ℤ, pos, nat_abs, ◌-ℤ◌, ap₂, ◌∙◌}
+use Rattle.std.proofs.lemmas.Int.{ints}
+use Rattle.std.proofs.lemmas.List.{get_or-take, get_or-drop, length-take, length-drop}
 use mir.Syntax.{w32}
-use mir.Val.{SFits, to_z, of_z}
-use Rattle.signed.proofs.Signs.{abs_add, abs_neg, read_back, fits_of_abs}
-use Rattle.key_check.proofs.Stretches.{half_by_stretches}
+use mir.Val.{SFits}
+use Rattle.signed.proofs.Signs.{read_back, fits_of_abs}
+use Rattle.signed.proofs.Vectors.{within_at}
+use Rattle.key_check.specs.Rows.{Keyed, AreSmall}
+use Rattle.key_check.proofs.Stretches.{half_by_stretches, take_small, drop_small}
 use Rattle.key_check.proofs.half_inner.Goals as goal
 use Rattle.key_check.proofs.half_inner.Goals.{After-stretch-wrapped}
 
--- ** What the code asks for
+-- ** A half of the key
 
-pub overflow_add-base : goal.overflow_add-base
-overflow_add-base c = let k = c.requires.0 in record { fits = omega (arith, k.most, c.requires.1, c.requires.2) }
+abbrev half_of : (key : List ℤ) (base n : ℕ) → List ℤ
+half_of key base n = take (base + n - base) (drop base key)
+
+module _ (key : List ℤ) (n base : ℕ) (k : Keyed key n) (h : base ≤ n) where
+  half_small : AreSmall (half_of key base n)
+  half_small = take_small (base + n - base) (drop base key) (drop_small base key (within_at 7 key k.small))
+
+  half_size : length (half_of key base n) ≡ n
+  half_size = omega (arith, length-take (base + n - base) (drop base key), length-drop base key, k.both)
+
+  half_at : (p : ℕ) → p < n → get_or (half_of key base n) p (pos 0) ≡ get_or key (base + p) (pos 0)
+  half_at p g = get_or-take (base + n - base) (drop base key) p (pos 0) (omega arith) ∙ get_or-drop base key p (pos 0)
+
+-- ** What the code asks for
 
 pub stretch-direct-requires : goal.stretch-direct-requires
 stretch-direct-requires c =
-    let k = c.requires.0 in
-    (k.small, omega (arith, k.both, k.most), omega (arith, k.both, c.requires.1, c.requires.2), omega (arith, k.both, c.requires.1, c.requires.2))
-
-pub overflow_add-base-2 : goal.overflow_add-base-2
-overflow_add-base-2 c = record { fits = omega (arith, c.requires.0.most, c.requires.1, c.requires.2) }
+    let a = c.args in
+    let half = half_of a.key.now a.base a.n in
+    let small = half_small a.key.now a.n a.base c.requires.0 c.requires.1 in
+    let size = half_size a.key.now a.n a.base c.requires.0 c.requires.1 in
+    let few = c.requires.0.most in (
+      take_small (a.n - a.c) half small,
+      take_small (length half - a.c) (drop a.c half) (drop_small a.c half small),
+      omega (arith, length-take (a.n - a.c) half, length-take (length half - a.c) (drop a.c half), length-drop a.c half),
+      omega (arith, length-take (a.n - a.c) half),
+    )
 
 pub stretch-wrapped-requires : goal.stretch-wrapped-requires
 stretch-wrapped-requires c =
-    let k = c.requires.0 in
-    (k.small, omega (arith, k.both, k.most), omega (arith, k.both, c.requires.1, c.requires.2), omega (arith, k.both, c.requires.1, c.requires.2))
+    let a = c.args in
+    let half = half_of a.key.now a.base a.n in
+    let small = half_small a.key.now a.n a.base c.requires.0 c.requires.1 in
+    let size = half_size a.key.now a.n a.base c.requires.0 c.requires.1 in
+    let few = c.requires.0.most in
+    let wraps = length-take (length half - (a.n - a.c)) (drop (a.n - a.c) half) in (
+      take_small (length half - (a.n - a.c)) (drop (a.n - a.c) half) (drop_small (a.n - a.c) half small),
+      take_small a.c half small,
+      omega (arith, wraps, length-drop (a.n - a.c) half, length-take a.c half),
+      omega (arith, wraps, length-drop (a.n - a.c) half),
+    )
 
 module _ (c : After-stretch-wrapped) where
   abbrev taken : ℤ
   taken = c.stretch-direct.result -ℤ c.stretch-wrapped.result
 
-  difference_is : to_z w32 (of_z w32 c.stretch-direct.result) -ℤ to_z w32 (of_z w32 c.stretch-wrapped.result) ≡ taken
-  difference_is =
-      rw (
-        read_back {z = c.stretch-direct.result} (record { sfits = c.stretch-direct.type_inv }),
-        read_back {z = c.stretch-wrapped.result}
-            (record { sfits = c.stretch-wrapped.type_inv }),
-      )
+  direct_fits : SFits w32 c.stretch-direct.result
+  direct_fits = record { sfits = c.stretch-direct.type_inv }
+
+  wrapped_fits : SFits w32 c.stretch-wrapped.result
+  wrapped_fits = record { sfits = c.stretch-wrapped.type_inv }
 
   small : nat_abs taken ≤ 49 * c.args.n
   small =
+      let a = c.args in
+      let half = half_of a.key.now a.base a.n in
+      let size = half_size a.key.now a.n a.base c.requires.0 c.requires.1 in
       omega (
         arith,
+        ints,
         c.stretch-direct.ensures.1,
         c.stretch-wrapped.ensures.1,
-        c.requires.2,
-        abs_add c.stretch-direct.result
-            (neg_ℤ c.stretch-wrapped.result),
-        abs_neg c.stretch-wrapped.result,
+        length-take (a.n - a.c) half,
+        length-take (length half - (a.n - a.c)) (drop (a.n - a.c) half),
+        length-drop (a.n - a.c) half,
       )
 
-  fits : SFits w32 taken
-  fits = fits_of_abs (omega (arith, small, c.requires.0.most))
-
-pub overflow_sub-result : goal.overflow_sub-result
-overflow_sub-result c =
-    let here = (goal.at.overflow_sub-result c).After-stretch-wrapped in
-    rw (difference_is here) (fits here)
+  taken_fits : SFits w32 taken
+  taken_fits = fits_of_abs (omega (arith, small, c.requires.0.most))
 
 pub returns : goal.returns
 returns c =
     let here = (goal.at.returns c).After-stretch-wrapped in
     let a = c.args in
-    rw (difference_is here, read_back (fits here)) (
+    let half = half_of a.key.now a.base a.n in
+    rw (read_back (direct_fits here), read_back (wrapped_fits here), read_back (taken_fits here)) (
       ap₂ (λ (x y : ℤ). x -ℤ y) c.stretch-direct.ensures.0 c.stretch-wrapped.ensures.0
-          ∙ half_by_stretches a.key.now a.n a.base a.c c.requires.2,
+          ∙ half_by_stretches a.key.now half a.n a.base a.c c.requires.2 (half_size a.key.now a.n a.base c.requires.0 c.requires.1)
+          (half_at a.key.now a.n a.base c.requires.0 c.requires.1),
       small here,
     )

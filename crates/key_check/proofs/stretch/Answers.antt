@@ -1,64 +1,58 @@
--- `key_check::stretch` meets its contract: before turn p the sum is that of the first p products. Assumes nothing.
-use mathlib.Core.Path.{◌≡◌, ap, ◌∙◌}
-use mathlib.Core.Bool.{true}
-use mathlib.Core.List.{List}
-use Prim.Native.Nat.{ℕ, ◌+◌}
-use native.Mathlib.Omega.{arith}
-use lib.IntN.{ℤ, pos, ◌*ℤ◌}
-use lib.ListN.{get_or}
+-- `key_check::stretch` meets its contract: before a turn the sum is that of the products so far. Assumes nothing.
+use Rattle.std.proofs.Common.{arith, ◌≡◌, ◌+◌, ◌<◌, ℕ, List, ℤ, pos, ◌+ℤ◌, ◌*ℤ◌, get_or, ap, ◌∙◌}
+use Rattle.std.proofs.lemmas.List.{length_push}
+use Rattle.std.proofs.lemmas.Slice.Zip.{zip_turn}
 use mir.Syntax.{w32}
-use mir.Val.{to_z, of_z}
-use Rattle.signed.specs.Vectors.{all_within}
+use mir.Val.{SFits, to_z, of_z}
 use Rattle.signed.proofs.Signs.{read_back, fits_of_abs}
-use Rattle.signed.proofs.Vectors.{within_at}
-use Rattle.challenge_product.specs.Product.{key_bound}
-use Rattle.key_check.specs.Rows.{sum_to, product_at}
-use Rattle.key_check.proofs.Stretches.{product_small, summed_none, summed_more}
+use Rattle.key_check.specs.Rows.{AreSmall, product_of}
+use Rattle.key_check.proofs.Stretches.{Summed, product_small, summed_none, summed_more}
 use Rattle.key_check.proofs.stretch.Goals as goal
 
--- ** One product
+-- ** One turn, over plain variables
 
--- a value of the key is read from its bits as it is
-key_read : (key : List ℤ) (k : ℕ) → all_within key_bound key ≡ true → to_z w32 (of_z w32 (get_or key k (pos 0))) ≡ get_or key k (pos 0)
-key_read key k small = read_back (fits_of_abs {w = w32} (omega (arith, within_at key_bound key small k)))
+module _ (a b : List ℤ) (a_small : AreSmall a) (b_small : AreSmall b) (p : ℕ) (x y : ℤ) (ex : x ≡ get_or a p (pos 0))
+    (ey : y ≡ get_or b p (pos 0)) where
+  -- the product, as the code has it
+  product_is : to_z w32 (of_z w32 x) *ℤ to_z w32 (of_z w32 y) ≡ product_of a b p
+  product_is =
+      rw (
+        ex,
+        ey,
+        read_back (fits_of_abs {w = w32} {z = get_or a p (pos 0)} (omega (arith, a_small p))),
+        read_back (fits_of_abs {w = w32} {z = get_or b p (pos 0)} (omega (arith, b_small p))),
+      )
 
-product_is : (key : List ℤ) (a b p : ℕ) → all_within key_bound key ≡ true
-    → to_z w32 (of_z w32 (get_or key (a + p) (pos 0))) *ℤ to_z w32 (of_z w32 (get_or key (b + p) (pos 0))) ≡ product_at key a b p
-product_is key a b p small = rw (key_read key (a + p) small, key_read key (b + p) small)
+  product_fits : SFits w32 (to_z w32 (of_z w32 x) *ℤ to_z w32 (of_z w32 y))
+  product_fits = rw product_is (fits_of_abs (omega (arith, product_small a b a_small b_small p)))
+
+  module _ (sum : ℤ) (s : Summed a b sum p) (few : p < 1024) where
+    made : sum +ℤ to_z w32 (of_z w32 (to_z w32 (of_z w32 x) *ℤ to_z w32 (of_z w32 y))) ≡ sum +ℤ product_of a b p
+    made = ap (λ (z : ℤ). sum +ℤ z) (read_back product_fits ∙ product_is)
+
+    made_fits : SFits w32 (sum +ℤ to_z w32 (of_z w32 (to_z w32 (of_z w32 x) *ℤ to_z w32 (of_z w32 y))))
+    made_fits = let more = (summed_more a b a_small b_small sum p s).few in rw made (fits_of_abs (omega arith))
+
+    turned : Summed a b (to_z w32 (of_z w32 (sum +ℤ to_z w32 (of_z w32 (to_z w32 (of_z w32 x) *ℤ to_z w32 (of_z w32 y)))))) (p + 1)
+    turned = rw (read_back made_fits, made) (summed_more a b a_small b_small sum p s)
 
 -- ** What the code asks for
 
-pub loop-p-init : goal.loop-p-init
-loop-p-init c = (omega arith, summed_none c.args.key.now c.args.a c.args.b c.requires.0)
-
-pub overflow_add-x : goal.overflow_add-x
-overflow_add-x c = record { fits = omega (arith, c.requires.1, c.requires.2) }
-
-pub overflow_add-y : goal.overflow_add-y
-overflow_add-y c = record { fits = omega (arith, c.requires.1, c.requires.3) }
+pub loop-x-init : goal.loop-x-init
+loop-x-init c = summed_none c.args.a.now c.args.b.now c.requires.0 c.requires.1
 
 pub overflow_mul-sum : goal.overflow_mul-sum
 overflow_mul-sum c =
-    let a = c.args in
-    rw (product_is a.key.now a.a a.b c.loop-p.p c.requires.0) (fits_of_abs (omega (arith, product_small a.key.now a.a a.b c.requires.0 c.loop-p.p)))
+    let turn = zip_turn c.args.a.now c.args.b.now c.loop-x.yielded _ _ c.next.new.self _ (cc) (cc) c.loop-x.yielded_by _ c.in-Some.is c.next.ensures.steps in
+    product_fits _ _ c.requires.0 c.requires.1 _ _ _ (turn.2 (pos 0)) (turn.3 (pos 0))
 
 pub overflow_add-sum : goal.overflow_add-sum
 overflow_add-sum c =
-    let a = c.args in
-    let p = c.loop-p.p in
-    let summed = summed_more a.key.now a.a a.b c.requires.0 (to_z w32 c.loop-p.sum-bits) p c.loop-p.invariant.1 in
-    rw (read_back (overflow_mul-sum c), product_is a.key.now a.a a.b p c.requires.0)
-    (fits_of_abs (omega (arith, summed.few, c.requires.1, c.requires.2, c.loop-p.invariant.0)))
+    let turn = zip_turn c.args.a.now c.args.b.now c.loop-x.yielded _ _ c.next.new.self _ (cc) (cc) c.loop-x.yielded_by _ c.in-Some.is c.next.ensures.steps in
+    made_fits _ _ c.requires.0 c.requires.1 _ _ _ (turn.2 (pos 0)) (turn.3 (pos 0)) _ c.loop-x.invariant (omega (arith, turn.0, c.requires.3))
 
-pub loop-p-preserved : goal.loop-p-preserved
-loop-p-preserved c =
-    let a = c.args in
-    let p = c.loop-p.p in
-    let summed = summed_more a.key.now a.a a.b c.requires.0 (to_z w32 c.loop-p.sum-bits) p c.loop-p.invariant.1 in
-    (omega arith, rw (read_back (overflow_add-sum c), read_back (overflow_mul-sum c), product_is a.key.now a.a a.b p c.requires.0) summed)
-
-pub returns : goal.returns
-returns c =
-    let a = c.args in
-    let done : c.loop-p.p ≡ a.count = omega (arith, c.loop-p.invariant.0) in
-    (c.loop-p.invariant.1.total ∙ ap (sum_to (product_at a.key.now a.a a.b)) done, omega (arith, c.loop-p.invariant.1.few))
+pub loop-x-preserved : goal.loop-x-preserved
+loop-x-preserved c =
+    let turn = zip_turn c.args.a.now c.args.b.now c.loop-x.yielded _ _ c.next.new.self _ (cc) (cc) c.loop-x.yielded_by _ c.in-Some.is c.next.ensures.steps in
+    rw length_push
+    (turned _ _ c.requires.0 c.requires.1 _ _ _ (turn.2 (pos 0)) (turn.3 (pos 0)) _ c.loop-x.invariant (omega (arith, turn.0, c.requires.3)))

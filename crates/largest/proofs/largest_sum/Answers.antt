@@ -46,14 +46,6 @@ module _ (values : List ℤ) (n k : ℕ) (few : k ≤ 64) where
 
 -- ** What the code asks for
 
-pub excess_over-over-requires : goal.excess_over-over-requires
-excess_over-over-requires c =
-    let kth = c.kth_largest-t.ensures in
-    rw (t_read kth.1) (c.requires.0, kth.1, omega (arith, kth.0.over, c.requires.3))
-
-pub overflow_mul-result : goal.overflow_mul-result
-overflow_mul-result c = product_fits c.args.k c.kth_largest-t.result c.requires.3 c.kth_largest-t.ensures.1
-
 pub overflow_add-result : goal.overflow_add-result
 overflow_add-result c =
     let kth = c.kth_largest-t.ensures in

@@ -3,14 +3,13 @@ use native.Mathlib.Omega.{arith}
 use mathlib.Core.Path.{◌≡◌, sym, ap, ◌∙◌}
 use mathlib.Core.Bool.{Bool, false, and-false}
 use mathlib.Core.List.{List}
-use Prim.Native.Nat.{ℕ, ◌+◌, ◌≤◌, ◌<◌}
+use Prim.Native.Nat.{ℕ, ◌+◌, ◌<◌}
 use borrow.Author.Tests.{lt-leb}
 use lib.Dec.{ltb}
-use lib.ListN.{length, take, replicate}
-use lib.Seq.{sets, length-sets, length-take-le}
+use lib.ListN.{length, replicate}
+use lib.Seq.{length-take-le}
 use Rattle.bits.specs.Bits.{number, bit_at}
 use Rattle.bits.proofs.Walking.{length_items}
-use Rattle.lists.proofs.AtTheStart.{take_written}
 use Rattle.challenge.specs.Challenge.{is_challenge, are_positions}
 use Rattle.record.specs.Reading.{positions_at, challenge_at}
 use Rattle.record_reader.proofs.is_challenge_at.Goals as goal
@@ -23,13 +22,6 @@ length_positions : (s : ℕ → Bool) (at count : ℕ) → length (positions_at 
 unfolding positions_at
 length_positions s at count = length_items (λ (i : ℕ). number s i 16) (λ (i : ℕ). i + 16) at count
 
--- the positions that the array holds
-taken : (s : ℕ → Bool) (count : ℕ) → count ≤ 64 → take count (sets (replicate 64 0) 0 (positions_at s 32 count)) ≡ positions_at s 32 count
-taken s count h =
-    let e = length_positions s 32 count in
-    ap (λ (k : ℕ). take k (sets (replicate 64 0) 0 (positions_at s 32 count))) (sym e)
-    ∙ take_written (replicate 64 0) (positions_at s 32 count) (omega (arith, e))
-
 -- ** What the code asks for
 
 pub returns-then-count-gt-MOST_POSITIONS : goal.returns-then-count-gt-MOST_POSITIONS
@@ -38,18 +30,10 @@ returns-then-count-gt-MOST_POSITIONS c =
     let s = bit_at a.bytes.now in
     sym (too_many a.n (challenge_at s 24) (omega (arith, length_positions s 32 (number s 24 8), c.number_at-count.ensures)))
 
-pub slice_bounds-is_challenge-end : goal.slice_bounds-is_challenge-end
-slice_bounds-is_challenge-end c =
-    let count = c.number_at-count.result in
-    -- the array keeps its length
-    let long = ap length c.get_positions.ensures ∙ length-sets (replicate 64 0) 0 (positions_at (bit_at c.args.bytes.now) 32 count) in
-    sym (length-take-le _ _ (rw long (omega arith)))
-
 pub returns : goal.returns
 returns c =
-    let r = c.number_at-count in
     let a = c.args in
-    let s = bit_at a.bytes.now in
+    let r = c.number_at-count in
+    let long = length-take-le r.result (replicate 64 0) (omega arith) in
     c.is_challenge.ensures
-    ∙ ap (is_challenge a.n)
-    (ap (take r.result) c.get_positions.ensures ∙ taken s r.result (omega arith) ∙ ap (positions_at s 32) r.ensures)
+    ∙ ap (is_challenge a.n) (c.get_positions.ensures ∙ ap (positions_at (bit_at a.bytes.now) 32) (long ∙ r.ensures))

@@ -1,8 +1,7 @@
 -- `record_reader::refuse` meets its contract. Assumes nothing.
-use mathlib.Core.Path.{refl}
 use Rattle.record_reader.specs.Call.{no_contents}
 use Rattle.record_reader.proofs.refuse.Goals as goal
 
 pub returns : goal.returns
 unfolding no_contents
-returns c = refl
+returns c = rw c.number.ensures

@@ -1,7 +1,9 @@
 -- `record_reader::value_at` meets its contract: the parts of the longest form. Assumes nothing.
 use native.Mathlib.Omega.{arith}
-use mathlib.Core.Path.{◌≡◌, ap, ◌∙◌}
-use mathlib.Core.Bool.{Bool}
+use mathlib.Core.Path.{◌≡◌, sym, ap, ap₂, ◌∙◌}
+use mathlib.Core.Bool.{Bool, not, ◌&&◌, ◌||◌}
+use borrow.Author.Tests.{not-true, not-false}
+use lib.Dec.{eqb, ltb}
 use Prim.Native.Nat.{ℕ, ◌+◌, ◌-◌, ◌*◌, ◌/◌, ◌%◌, ◌^◌, ◌≤◌, ◌<◌}
 use lib.Count.{count_leading_zeros}
 use Rattle.bits.specs.Bits.{number, bit_at}
@@ -9,9 +11,10 @@ use Rattle.bits.proofs.Numbers.{number_below}
 use Rattle.bits.proofs.Streams.{zeros_most}
 use Rattle.signed.proofs.Signs.{read_back}
 use Rattle.record.specs.Lengths.{packed_length}
-use Rattle.record.specs.Reading.{zeros_at, size_at, value_at, is_value}
+use Rattle.record.specs.Record.{value_limit}
+use Rattle.record.specs.Reading.{with_sign, zeros_at, size_at, value_at, is_value}
 use Rattle.record.proofs.Forms.{packed_next}
-use Rattle.record_reader.proofs.LongestForm.{Parts, parts}
+use Rattle.record_reader.proofs.LongestForm.{Parts, parts, none_is}
 use mir.Syntax.{w32}
 use Rattle.record_reader.proofs.value_at.Goals as goal
 use Rattle.record_reader.proofs.value_at.Goals.{After-number_at-form}
@@ -45,25 +48,21 @@ module _ (c : After-number_at-form) where
 pub overflow_sub-zeros : goal.overflow_sub-zeros
 overflow_sub-zeros c = omega (arith, (found (goal.at.overflow_sub-zeros c).After-number_at-form).over)
 
-pub overflow_mul-size : goal.overflow_mul-size
-overflow_mul-size c =
-    let here = (goal.at.overflow_mul-size c).After-number_at-form in
-    omega (arith, zeros_is here, few here)
+-- as the code tests that it is none
+none : (c : After-number_at-form) → let size = c.number_at-form.result / 2 ^ 26 % 128 + 128 * (count_leading_zeros 64 (c.number_at-form.result % 2 ^ 26) - 38) in
+    (ltb value_limit size || (eqb (c.number_at-form.result / 2 ^ 33) 1 && eqb size 0)) ≡ not (is_value (stream c) (at c))
+none c = none_is (stream c) (at c) (size_is c) (found c).sign
 
-pub overflow_add-size : goal.overflow_add-size
-overflow_add-size c =
-    let here = (goal.at.overflow_add-size c).After-number_at-form in
-    omega (arith, zeros_is here, few here)
-
-pub with_sign-requires : goal.with_sign-requires
-with_sign-requires c =
-    let here = (goal.at.with_sign-requires c).After-number_at-form in
-    omega (arith, zeros_is here, few here)
+pub returns-then-size-minus : goal.returns-then-size-minus
+returns-then-size-minus c =
+    let here = (goal.at.returns-then-size-minus c).After-number_at-form in
+    rw (not-true _ (sym (none here) ∙ c.if-size-minus.true))
 
 pub returns : goal.returns
-unfolding value_at is_value
+unfolding value_at
 returns c =
     let here = (goal.at.returns c).After-number_at-form in
-    let m = (found here).sign in
-    let l = (found here).low in
-    let z = zeros_is here in record { value = (read_back {w = w32} (record { sfits = c.with_sign.type_inv }) ∙ c.with_sign.ensures ∙ rw (m, l, z), rw (m, l, z)); next = λ h. ap (at here +◌) (c.packed_length.ensures ∙ ap packed_length (size_is here)) ∙ packed_next (stream here) (at here) (rw (m, l, z) at h) }
+    let right = not-false _ (sym (none here) ∙ c.if-size-minus.false) in
+    let value = read_back {w = w32} (record { sfits = c.with_sign.type_inv }) ∙ c.with_sign.ensures ∙ ap₂ with_sign (found here).sign (size_is here) in
+    let next = ap (at here +◌) (c.packed_length.ensures ∙ ap packed_length (size_is here)) ∙ packed_next (stream here) (at here) right in
+    rw (right, value, next)

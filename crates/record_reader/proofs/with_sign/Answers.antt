@@ -4,13 +4,10 @@ use mathlib.Core.Path.{ap, ap₂, ◌∙◌}
 use lib.IntN.{pos, ◌*ℤ◌}
 use mir.Syntax.{w32}
 use mir.ValLaws.{to_z_pos}
-use Rattle.bits.proofs.Numbers.{bit_below, bit_is_one}
+use Rattle.bits.proofs.Numbers.{bit_is_one}
 use Rattle.signed.specs.Signs.{sign}
 use Rattle.signed.proofs.Signs.{read_back, times_sign}
 use Rattle.record_reader.proofs.with_sign.Goals as goal
-
-pub sign_of-requires : goal.sign_of-requires
-sign_of-requires c = bit_below c.args.minus
 
 pub times_sign-requires : goal.times_sign-requires
 times_sign-requires c = (

@@ -23,6 +23,6 @@ returns-then-bit_at c =
     let s = bit_at c.args.bytes.now in
     (rw (sym c.bit_at.ensures ∙ c.if-bit_at.true, c.number_at.ensures), omega (arith, number_below s 24 8, c.number_at.ensures))
 
-pub returns : goal.returns
+pub returns-else-bit_at : goal.returns-else-bit_at
 unfolding z1_start
-returns c = (rw (sym c.bit_at.ensures ∙ c.if-bit_at.false), omega arith)
+returns-else-bit_at c = (rw (sym c.bit_at.ensures ∙ c.if-bit_at.false), omega arith)

@@ -1,27 +1,11 @@
 -- `record_writer::put_positions` meets its contract: each turn leaves the positions that follow to be put. Assumes nothing.
 use native.Mathlib.Omega.{arith}
-use mathlib.Core.Path.{◌≡◌}
-use Prim.Native.Nat.{◌+◌, ◌*◌, ◌<◌}
+use Prim.Native.Nat.{◌<◌}
 use lib.ListN.{length, get_or}
 use Rattle.bits.specs.Bits.{digits}
 use Rattle.bits.proofs.Streams.{length_digits}
-use Rattle.bits.proofs.Putting.{putting_start, putting_step, putting_end}
+use Rattle.bits.proofs.Putting.{putting_step, putting_end}
 use Rattle.record_writer.proofs.put_positions.Goals as goal
-
-pub loop-i-init : goal.loop-i-init
-loop-i-init c =
-    let e : 8 * (c.args.k + 2 * 0) ≡ 8 * c.args.k = omega arith in
-    rw e (putting_start (digits 16) _ _ _)
-
-pub put_two_bytes-requires : goal.put_two_bytes-requires
-put_two_bytes-requires c =
-    omega (arith, c.requires, c.loop-i.invariant.long)
-
-pub overflow_add-i : goal.overflow_add-i
-overflow_add-i c = omega arith
-
-pub loop-i-smaller : goal.loop-i-smaller
-loop-i-smaller c = omega arith
 
 pub loop-i-preserved : goal.loop-i-preserved
 loop-i-preserved c =
@@ -29,9 +13,6 @@ loop-i-preserved c =
     let i = c.loop-i.i in
     let l : i < length a.challenge.now = omega arith in
     putting_step (digits 16) _ _ _ 0 l c.put_two_bytes.ensures (omega (arith, length_digits 16 (get_or a.challenge.now i 0))) c.loop-i.invariant
-
-pub shape_of-page : goal.shape_of-page
-shape_of-page c = c.loop-i.invariant.long
 
 pub returns : goal.returns
 returns c = (putting_end (digits 16) _ _ _ (omega arith) c.loop-i.invariant).1

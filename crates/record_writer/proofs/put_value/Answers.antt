@@ -19,24 +19,18 @@ use Rattle.record.proofs.FieldSets.{length_value}
 use Rattle.record.proofs.Lengths.{packed_value}
 use Rattle.record_writer.proofs.WriteLaws.{below_zero, value_put}
 use Rattle.record_writer.proofs.put_value.Goals as goal
-use Rattle.record_writer.proofs.put_value.Goals.{After-size_of-size}
+use Rattle.record_writer.proofs.put_value.Goals.{After-unsigned_abs-size}
 
 -- ** What is known behind the size
 
-size : (c : After-size_of-size) → c.size_of-size.result ≡ nat_abs c.args.value
-size c = c.size_of-size.ensures ∙ ap nat_abs (read_back c.ranges.value)
+size : (c : After-unsigned_abs-size) → c.unsigned_abs-size.result ≡ nat_abs c.args.value
+size c = c.unsigned_abs-size.ensures.value ∙ ap nat_abs (read_back c.ranges.value)
 
 -- the sign, as it is tested
-minus : (c : After-size_of-size) → lt_z (to_z w32 (of_z w32 c.args.value)) (pos 0) ≡ negative c.args.value
+minus : (c : After-unsigned_abs-size) → lt_z (to_z w32 (of_z w32 c.args.value)) (pos 0) ≡ negative c.args.value
 minus c = ap (λ (z : ℤ). lt_z z (pos 0)) (read_back c.ranges.value) ∙ below_zero c.args.value
 
 -- ** What the code asks for
-
-pub overflow_mul-minus : goal.overflow_mul-minus
-overflow_mul-minus c = omega (arith, bit_below (lt_z (to_z w32 (of_z w32 c.args.value)) (pos 0)))
-
-pub overflow_add-minus : goal.overflow_add-minus
-overflow_add-minus c = omega (arith, bit_below (lt_z (to_z w32 (of_z w32 c.args.value)) (pos 0)))
 
 pub put_eight-requires : goal.put_eight-requires
 put_eight-requires c =
@@ -45,7 +39,7 @@ put_eight-requires c =
 
 pub put_one-requires : goal.put_one-requires
 put_one-requires c =
-    let size_is = size (goal.at.put_one-requires c).After-size_of-size in
+    let size_is = size (goal.at.put_one-requires c).After-unsigned_abs-size in
     -- the page keeps its length
     let long = ap length c.put_eight.ensures ∙ length_put _ _ _ in (
       omega (arith, c.requires),
@@ -56,7 +50,7 @@ put_one-requires c =
 pub returns : goal.returns
 returns c =
     let a = c.args in
-    let here = (goal.at.returns c).After-size_of-size in
+    let here = (goal.at.returns c).After-unsigned_abs-size in
     let size_is = size here in
     let first = c.put_eight.ensures
     ∙ ap₂ (λ (b : Bool) (x : ℕ). put_bits a.page.now a.at (digits 8 (128 * bool_byte b + x % 128))) (minus here) size_is in (

@@ -11,32 +11,18 @@ use Rattle.record.proofs.Lengths.{packed_value}
 use Rattle.record_writer.proofs.WriteLaws.{value_small, value_read}
 use Rattle.record_writer.proofs.values_length.Goals as goal
 
-pub loop-i-init : goal.loop-i-init
-loop-i-init c = (omega arith, omega arith)
-
-pub size_of-requires : goal.size_of-requires
-size_of-requires c =
+pub loop-value-preserved : goal.loop-value-preserved
+loop-value-preserved c =
     let values = c.args.values.now in
-    rw (value_read values c.requires.0 c.loop-i.i) (value_small values c.requires.0 c.loop-i.i)
-
-pub overflow_add-i : goal.overflow_add-i
-overflow_add-i c = omega arith
-
-pub loop-i-smaller : goal.loop-i-smaller
-loop-i-smaller c = omega arith
-
-pub loop-i-preserved : goal.loop-i-preserved
-loop-i-preserved c =
-    let values = c.args.values.now in
-    let i = c.loop-i.i in
+    let i = c.loop-value.value-index in
     let value = get_or values i (pos 0) in
-    let size = c.size_of.ensures ∙ ap nat_abs (value_read values c.requires.0 i) in
+    let size = c.unsigned_abs.ensures.value ∙ ap nat_abs (value_read values c.requires.0 i) in
     -- the packed length of the value is that of its form
     let form = c.packed_length.ensures ∙ ap packed_length size ∙ packed_value value (value_small values c.requires.0 i) in
     let l : i < length values = omega arith in
-    (omega arith, omega (arith, form, forms_length value_bits values (pos 0) i l, c.loop-i.invariant.1))
+    (omega arith, omega (arith, form, forms_length value_bits values (pos 0) i l, c.loop-value.invariant.1))
 
 pub returns : goal.returns
 returns c =
-    let t = c.loop-i in
-    omega (arith, t.invariant.1, no_forms_left value_bits c.args.values.now t.i (omega arith))
+    let t = c.loop-value in
+    omega (arith, t.invariant.1, no_forms_left value_bits c.args.values.now t.value-index (omega arith))

@@ -30,13 +30,9 @@ abbrev Asked : (y sc : List ℤ) → Type 0
 Asked y sc = (length y ≡ length sc) × (length sc ≤ 2048) × (all_within noise_bound y ≡ true) × (all_within output_bound sc ≡ true)
 
 module _ (word : ℕ) (y sc : List ℤ) {z : List ℤ} {norm : ℕ} {inner : ℤ} {i : ℕ} (asked : Asked y sc)
-    (s : Added (response_of (subtracts word) y sc) sc z norm inner i) (turn : i < length z) where
+    (s : Added (response_of (subtracts word) y sc) sc z norm inner i) (inside : i < length sc) where
   lengths : length (response_of (subtracts word) y sc) ≡ length sc
   lengths = length_response (subtracts word) y sc asked.0
-
-  -- the place is one of both vectors
-  inside : i < length sc
-  inside = omega (arith, s.size)
 
   y_small : nat_abs (get_or y i (pos 0)) ≤ noise_bound
   y_small = within_at noise_bound y asked.2 i
@@ -60,8 +56,7 @@ module _ (word : ℕ) (y sc : List ℤ) {z : List ℤ} {norm : ℕ} {inner : ℤ
       → to_z w32 (of_z w32 v) ≡ get_or (response_of (subtracts word) y sc) i (pos 0)
   value_read b f v eb ef ev =
       let f_read = as_read f (omega (arith, ef.1)) in
-      let here = inside in
-      let is = response_at (subtracts word) y sc i (omega (arith, asked.0)) here in
+      let is = response_at (subtracts word) y sc i (omega (arith, asked.0)) inside in
       rw (ev, y_read, product_read, f_read, ef.0, eb, times_sign, ← is) (as_read _ (omega (arith, value_small)))
 
   -- the sum of squares stays within that of the whole, and so fits
@@ -90,7 +85,7 @@ square-norm-requires c =
 pub overflow_add-norm : goal.overflow_add-norm
 overflow_add-norm c =
     let l = c.loop-i in
-    let v = value_read _ _ _ c.requires l.invariant c.loop-i-test.true _ _ _ c.bit0.ensures c.sign_of-sign.ensures c.response_at-v.ensures.0 in
+    let v = value_read _ _ _ c.requires l.invariant c.loop-i-test.true _ _ _ c.low_bits.ensures c.sign_of-sign.ensures c.response_at-v.ensures.0 in
     record { fits = omega (arith, rw v at c.square-norm.ensures, norm_small _ _ _ c.requires l.invariant c.loop-i-test.true) }
 
 pub plus_product-inner-requires : goal.plus_product-inner-requires
@@ -107,7 +102,7 @@ pub loop-i-preserved : goal.loop-i-preserved
 loop-i-preserved c =
     let l = c.loop-i in
     let lengths = length_response _ _ _ c.requires.0 in
-    let v = value_read _ _ _ c.requires l.invariant c.loop-i-test.true _ _ _ c.bit0.ensures c.sign_of-sign.ensures c.response_at-v.ensures.0 in
+    let v = value_read _ _ _ c.requires l.invariant c.loop-i-test.true _ _ _ c.low_bits.ensures c.sign_of-sign.ensures c.response_at-v.ensures.0 in
     let product = product_read _ _ _ c.requires l.invariant c.loop-i-test.true in
     add_more lengths l.invariant (omega (arith, l.invariant.size)) (value_small _ _ _ c.requires l.invariant c.loop-i-test.true)
     (product_small _ _ _ c.requires l.invariant c.loop-i-test.true)

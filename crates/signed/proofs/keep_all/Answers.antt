@@ -1,32 +1,23 @@
 -- `signed::keep_all` meets its contract: after i turns the first i values are kept or zero, and the others stand. Assumes nothing.
-use mathlib.Core.Path.{◌≡◌, ap, ◌∙◌}
-use mathlib.Core.Bool.{cond}
-use native.Mathlib.Omega.{arith}
-use lib.IntN.{ℤ, pos}
-use lib.ListN.{get_or, length-set}
+use Rattle.std.proofs.Common.{◌≡◌, ap, ap₂, ◌∙◌, Bool, true, false, cond, List, ◌++◌, length, drop, set, replicate, get_or, ℕ, ◌<◌, ◌+◌, ℤ, pos, rules}
+use lib.Seq.{set-get_or}
 use mir.Syntax.{w32}
-use mir.Val.{to_z, of_z}
-use Rattle.signed.proofs.Signs.{read_back}
-use Rattle.signed.proofs.keep_all.Invariants.{keep_more}
+use mir.Val.{SFits}
+use mir.ValLaws.{to_z-of_z}
+use Rattle.lists.proofs.Filling.{fill_more}
 use Rattle.signed.proofs.keep_all.Goals as goal
-use Rattle.signed.proofs.keep_all.Goals.{After-kept-v}
 
--- ** What is known in a turn
+keep_more : (keep : Bool) (d values : List ℤ) (i : ℕ) (v : ℤ)
+    → values ≡ cond keep d (replicate i (pos 0) ++ drop i d) → i < length d → v ≡ cond keep (get_or values i (pos 0)) (pos 0)
+    → set values i v ≡ cond keep d (replicate (i + 1) (pos 0) ++ drop (i + 1) d)
+keep_more true d values i v e h ev = ap (λ (x : ℤ). set values i x) ev ∙ set-get_or values i (pos 0) ∙ e
+keep_more false d values i v e h ev = ap₂ (λ (l : List ℤ) (x : ℤ). set l i x) e ev ∙ fill_more i (pos 0) d h
 
--- what it stores
-stored : (c : After-kept-v)
-    →
-    to_z w32 (of_z w32 c.kept-v.result) ≡ cond c.args.keep (get_or c.loop-i.values c.loop-i.i (pos 0)) (pos 0)
-stored c =
-    let keep = c.args.keep in
-    let value = ap (λ (x : ℤ). cond keep x (pos 0)) (read_back {w = w32} (record { sfits = c.kept-arg-1.given })) in
-    read_back {w = w32} (record { sfits = c.kept-v.type_inv }) ∙ c.kept-v.ensures ∙ value
-
--- ** What the code asks for
-
-pub loop-i-preserved : goal.loop-i-preserved
-loop-i-preserved c =
-    let a = c.args in
-    let t = c.loop-i in
-    let more = keep_more a.keep a.values.now t.values t.i _ t.invariant.2 (omega arith) (stored c) in
-    (omega arith, length-set t.values _ _ ∙ t.invariant.1, more)
+pub loop-v-preserved : goal.loop-v-preserved
+loop-v-preserved c =
+    let t = c.loop-v in
+    let i = t.v-index in
+    let value : SFits w32 (get_or t.values i (pos 0)) = search rules in
+    let stored : SFits w32 c.kept.result = search rules in
+    let kept = simp to_z-of_z at c.kept.ensures in
+    keep_more c.args.keep c.args.values.now t.values i _ t.invariant c.loop-v-test.true (rw to_z-of_z kept)

@@ -1,13 +1,11 @@
 -- `signed::square` meets its contract: a square has no sign. Assumes nothing.
-use mathlib.Core.Path.{◌≡◌, refl}
-use Prim.Native.Nat.{◌*◌, ◌≤◌}
-use native.Mathlib.Nat.{mul-le-mul}
-use lib.IntN.{ℤ, pos, negsuc, nat_abs, ◌*ℤ◌}
-use Rattle.signed.proofs.square.Goals.{Start}
+use Rattle.std.proofs.Common.{arith, ◌≤◌, nat_abs, ◌*◌}
+use Rattle.std.proofs.Math.Nat.{mul-le-mul}
+use Rattle.signed.proofs.Signs.{square_is, product_value}
+use Rattle.signed.proofs.square.Goals as goal
 
-square_is : (z : ℤ) → z *ℤ z ≡ pos (nat_abs z * nat_abs z)
-square_is (pos n) = refl
-square_is (negsuc n) = refl
-
-small : (c : Start) → nat_abs c.args.value * nat_abs c.args.value ≤ 4096 * 4096
-small c = mul-le-mul c.requires c.requires
+pub overflow_cast-result : goal.overflow_cast-result
+overflow_cast-result c =
+    let value = c.ranges.value in
+    let small : nat_abs c.args.value * nat_abs c.args.value ≤ 4096 * 4096 = mul-le-mul c.requires c.requires in
+    rw (product_value value value (omega arith), square_is c.args.value) (tt, omega arith)

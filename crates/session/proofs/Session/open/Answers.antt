@@ -1,9 +1,11 @@
 -- `session::Session::open` meets its contract. Assumes nothing.
-use borrow.Author.Tests.{eq-eqb, ne_eqb}
+use borrow.Author.Tests.{ne_eqb}
 use mathlib.Core.Path.{◌≡◌}
 use mathlib.Core.Bool.{cond}
 use Prim.Native.Nat.{ℕ}
+use native.Mathlib.Omega.{arith}
 use lib.Dec.{eqb}
+use Rattle.refused.proofs.Refusals.{number_pos}
 use Rattle.refusals.specs.Refusals.{open_refusal}
 use Rattle.session.specs.declared.Session.{Session}
 use Rattle.session.specs.declared.Opened.{Opened}
@@ -16,10 +18,10 @@ opens : (n deviation refusal : ℕ) (session : Session) → refusal ≡ open_ref
 unfolding opened
 opens n deviation refusal session e made = rw (made, e)
 
-pub returns-then-refusal-ne0 : goal.returns-then-refusal-ne0
-returns-then-refusal-ne0 c =
-    opens _ _ _ _ c.open_refusal-refusal.ensures (rw (ne_eqb c.open_refusal-refusal.result 0 c.if-refusal-ne0.true) c.fresh.ensures)
+pub returns-in-Err : goal.returns-in-Err
+returns-in-Err c =
+    let refused = ne_eqb c.number.result 0 (λ e. absurd (omega (arith, e, c.number.ensures, number_pos c.in-Err.refusal))) in
+    opens _ _ _ _ (rw c.number.ensures c.in-Err.ensures) (rw refused c.fresh.ensures)
 
-pub returns : goal.returns
-returns c =
-    opens _ _ _ _ c.open_refusal-refusal.ensures (rw (eq-eqb c.open_refusal-refusal.result 0 c.if-refusal-ne0.false) c.fresh-2.ensures)
+pub returns-in-Ok : goal.returns-in-Ok
+returns-in-Ok c = opens _ _ _ _ c.in-Ok.ensures c.fresh-in-Ok.ensures

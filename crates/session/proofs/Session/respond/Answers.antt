@@ -1,6 +1,6 @@
 -- `session::Session::respond` meets its contract, refused or served. Assumes nothing.
 use borrow.Author.Tests.{eq-eqb, ne_eqb}
-use mathlib.Core.Path.{◌≡◌, sym, ◌∙◌}
+use mathlib.Core.Path.{◌≡◌, sym}
 use Prim.Native.Nat.{ℕ}
 use lib.Dec.{lit<}
 use Rattle.checks.proofs.Degrees.{degree_range}
@@ -8,6 +8,8 @@ use Rattle.exponential.specs.Exponential.{exp_scaled}
 use Rattle.exponential.proofs.Table.{by_215}
 use Rattle.challenge_product.specs.Product.{product}
 use Rattle.response.specs.Response.{response_bit, Response, responded_by}
+use native.Mathlib.Omega.{arith}
+use Rattle.refused.proofs.Refusals.{number_pos}
 use Rattle.refusals.proofs.Served.{respond_served_lem}
 use Rattle.session.specs.declared.Session.{Session}
 use Rattle.session.specs.declared.Responded.{Responded}
@@ -22,25 +24,32 @@ refused_leaves : (s : Session) (r : Respond) (refusal : ℕ) (responded : Respon
 unfolding respond_left respond_refused
 refused_leaves s r refusal responded e h made = rw (made, ← e, ne_eqb refusal 0 h)
 
-pub returns-then-refusal-ne0 : goal.returns-then-refusal-ne0
+pub returns-in-Err : goal.returns-in-Err
 unfolding refusal_of_respond
-returns-then-refusal-ne0 c = refused_leaves _ _ _ _ c.respond_refusal-refusal.ensures c.if-refusal-ne0.true c.responded_refused.ensures
+returns-in-Err c =
+    refused_leaves _ _ _ _ c.in-Err.ensures (λ e. absurd (omega (arith, e, number_pos c.in-Err.refusal))) c.responded_refused.ensures
 
 -- ** Served
 
+pub invariant_of-exponential : goal.invariant_of-exponential
+invariant_of-exponential c =
+    record { is_polynomial = (respond_served_lem _ c.args.self.deviation _ _ _ _ _ _ _ _ (sym c.in-Ok.ensures)).is_polynomial_lem }
+
+pub invariant_of-factors : goal.invariant_of-factors
+invariant_of-factors c =
+    let k = respond_served_lem _ c.args.self.deviation _ _ _ _ _ _ _ _ (sym c.in-Ok.ensures) in
+    record {
+      low = (degree_range _ k.degree).1;
+      both = k.key_both;
+      small = k.key_small;
+      few = k.positions.few;
+      below = k.positions.below;
+    }
+
 pub respond-answer-requires : goal.respond-answer-requires
 respond-answer-requires c =
-    let k = respond_served_lem _ c.args.self.deviation _ _ _ _ _ _ _ _ (sym c.respond_refusal-refusal.ensures ∙ c.if-refusal-ne0.false) in
-    record {
-      factors = record {
-        degree = (degree_range _ k.degree).1;
-        both = k.key_both;
-        small = k.key_small;
-        few = k.positions.few;
-        below = k.positions.below;
-      };
-      lent = (k.is_polynomial_lem, lit< tt, k.words_enough, k.y_both, k.y_small, k.z_both, k.list_enough);
-    }
+    let k = respond_served_lem _ c.args.self.deviation _ _ _ _ _ _ _ _ (sym c.in-Ok.ensures) in
+    (lit< tt, k.words_enough, k.y_both, k.y_small, k.z_both, k.list_enough)
 
 response_leaves : (s : Session) (r : Respond) (response : Response) (responded : Responded) → refusal_of_respond s r ≡ 0
     → responded ≡ responded_served s response.answer
@@ -51,7 +60,7 @@ response_leaves : (s : Session) (r : Respond) (response : Response) (responded :
 unfolding respond_left respond_served bit_of_respond
 response_leaves s r response responded h made e = rw (made, e, by_215 r.polynomial, eq-eqb (refusal_of_respond s r) 0 h)
 
-pub returns : goal.returns
+pub returns-in-Ok : goal.returns-in-Ok
 unfolding refusal_of_respond z_of_respond
-returns c =
-    response_leaves _ _ _ _ (sym c.respond_refusal-refusal.ensures ∙ c.if-refusal-ne0.false) c.responded_served.ensures c.respond-answer.ensures
+returns-in-Ok c =
+    response_leaves _ _ _ _ (sym c.in-Ok.ensures) c.responded_served.ensures c.respond-answer.ensures
