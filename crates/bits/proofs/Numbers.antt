@@ -55,11 +55,6 @@ module _ (s : ℕ → Bool) where
       rw (add-suc a b, pow-suc 2 b, add_assoc at a b)
       (omega (arith, number_split at a b))
 
-  -- in two halves, as code works it out
-  pub number_halves : (at w : ℕ) {end high low : ℕ} → high ≡ number s at w → low ≡ number s end w → end ≡ at + w
-      → 2 ^ w * high + low ≡ number s at (w + w)
-  number_halves at w e f g = rw (e, f, g, number_split at w w) (omega arith)
-
   -- the first bit, and the number of the others
   pub number_first : (at w : ℕ) → number s at (suc w) ≡ bool_byte (s at) * 2 ^ w + number s (suc at) w
   unfolding number

@@ -1,11 +1,10 @@
 -- A list filled with one value, place by place. Assumes nothing.
 use mathlib.Core.Path.{◌≡◌, refl, ap}
-use mathlib.Core.List.{List, [], ◌∷◌, ◌++◌, append-nil}
+use mathlib.Core.List.{List, [], ◌∷◌, ◌++◌}
 use Prim.Native.Nat.{ℕ, zero, suc, ◌+◌, ◌<◌}
 use native.Mathlib.Nat.{not-suc-le-zero, le_of_suc-le-suc}
 use native.Mathlib.Numerals.{add-one}
 use lib.ListN.{length, replicate, drop, set}
-use lib.Seq.{drop-length}
 
 fill_suc : {A : Type 0} (n : ℕ) (v : A) (d : List A) → n < length d → set (replicate n v ++ drop n d) n v ≡ replicate (suc n) v ++ drop (suc n) d
 fill_suc n v [] l = absurd (not-suc-le-zero l)
@@ -15,7 +14,3 @@ fill_suc (suc n) v (x ∷ d) l = ap (λ (t : List _). v ∷ t) (fill_suc n v d (
 -- one place more
 pub fill_more : {A : Type 0} (n : ℕ) (v : A) (d : List A) → n < length d → set (replicate n v ++ drop n d) n v ≡ replicate (n + 1) v ++ drop (n + 1) d
 fill_more n v d l = rw (add-one n) (fill_suc n v d l)
-
--- every place
-pub fill_all : {A : Type 0} (n : ℕ) (v : A) (d : List A) → n ≡ length d → replicate n v ++ drop n d ≡ replicate (length d) v
-fill_all n v d e = rw (e, drop-length d, append-nil)

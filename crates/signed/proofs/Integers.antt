@@ -27,10 +27,6 @@ pub +-*ℤ : (m k c : ℤ) → (m +ℤ k) *ℤ c ≡ m *ℤ c +ℤ k *ℤ c
     ∙ +ℤ_assoc (m *ℤ c) (negsuc n *ℤ c) (neg_ℤ c)
     ∙ ap (λ (x : ℤ). m *ℤ c +ℤ x) (sym (pred_ℤ-*ℤ (negsuc n) c))
 
--- (a + b) + (c + d) = (a + c) + (b + d)
-pub +ℤ-mix : (a b c d : ℤ) → (a +ℤ b) +ℤ (c +ℤ d) ≡ (a +ℤ c) +ℤ (b +ℤ d)
-+ℤ-mix a b c d = omega (arith, ints)
-
 -- ** Signs of products
 
 pub neg-*ℤ : (a b : ℤ) → neg_ℤ a *ℤ b ≡ neg_ℤ (a *ℤ b)
