@@ -90,6 +90,7 @@ impl Factors<'_, '_> {
             return read_list::listed(self.key, read_list::KEY, base + (i - c), to);
         }
         let place = base + (i + self.degree - c);
-        -read_list::listed(self.key, read_list::KEY, place, to)
+        let value = read_list::listed(self.key, read_list::KEY, place, to);
+        -value
     }
 }

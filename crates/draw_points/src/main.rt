@@ -17,20 +17,25 @@ fn digit(byte: u8) -> u64 {
     u64::from(byte % 16 + byte / 64 * 9)
 }
 
-// The next column. The byte before its digits is shifted out by them, and what stdin does not have any more counts as zero bytes.
-fn column<R: Read>(input: &mut R) -> io::Result<u64> {
+// The next column. The byte before its digits is shifted out by them.
+fn column<R: Read>(row: &mut R) -> io::Result<u64> {
     let mut text = [0u8; 17];
-    input.chain(io::repeat(0)).read_exact(&mut text)?;
+    row.read_exact(&mut text)?;
     Ok(text.iter().fold(0, |n, byte| n << 4 | digit(*byte)))
 }
 
-// The next columns, so many.
-fn columns<R: Read, const N: usize>(input: &mut R) -> io::Result<[u64; N]> {
+// The next columns of a row, so many.
+fn columns<R: Read, const N: usize>(row: &mut R) -> io::Result<[u64; N]> {
     let mut columns = [0; N];
     for value in columns.iter_mut() {
-        *value = column(input)?;
+        *value = column(row)?;
     }
     Ok(columns)
+}
+
+// The next row. What stdin does not have any more counts as zero bytes: a row asks for it once.
+fn row_of<R: Read>(input: &mut R) -> io::Chain<&mut R, io::Repeat> {
+    input.chain(io::repeat(0))
 }
 
 // Where the session of a draw comes from: an opening; the draw before; or no call: it is made of any three numbers.
@@ -78,11 +83,12 @@ struct Row {
 impl Row {
     // The next row, column by column. Five of them say nothing of a draw.
     fn read<R: Read>(input: &mut R) -> io::Result<Row> {
-        let [degree, limit] = columns::<_, 2>(input)?;
-        let words = columns(input)?;
-        let raises = columns(input)?;
-        let [cdt, polynomial, words_lent, y, list] = columns::<_, 5>(input)?;
-        let [deviation, drawn, _, _, _, _, _, origin] = columns::<_, 8>(input)?;
+        let mut row = row_of(input);
+        let [degree, limit] = columns::<_, 2>(&mut row)?;
+        let words = columns(&mut row)?;
+        let raises = columns(&mut row)?;
+        let [cdt, polynomial, words_lent, y, list] = columns::<_, 5>(&mut row)?;
+        let [deviation, drawn, _, _, _, _, _, origin] = columns::<_, 8>(&mut row)?;
         Ok(Row {
             degree,
             limit,
@@ -152,8 +158,8 @@ struct Tables {
 impl Tables {
     // The next two rows.
     fn read<R: Read>(input: &mut R) -> io::Result<Tables> {
-        let cdt = columns(input)?;
-        let polynomial = columns(input)?;
+        let cdt = columns(&mut row_of(input))?;
+        let polynomial = columns(&mut row_of(input))?;
         Ok(Tables { cdt, polynomial })
     }
 

@@ -90,6 +90,13 @@ pub polynomial_of : (table : List ℕ) → is_polynomial table ≡ true → tabl
 unfolding is_polynomial
 polynomial_of table e = same_words_lem table polynomial e
 
+pub not_polynomial : (table : List ℕ) → (table ≡ polynomial → ⊥) → false ≡ is_polynomial table
+not_polynomial table h = by (is_polynomial table) refl
+  where
+    by : (t : Bool) → is_polynomial table ≡ t → false ≡ t
+    by true e = absurd (h (polynomial_of table e))
+    by false e = refl
+
 -- ** Deviation 215
 
 pub reciprocal_215 : reciprocal divisor ≡ 3269134179596076729

@@ -45,11 +45,15 @@ const POLYNOMIAL: [u64; POLYNOMIAL_WORDS] = [
     1,
 ];
 
-// Whether a lent table is the polynomial table.
+// Whether a lent table is the polynomial table. It is compared as an array, of which the compiler knows the length: it unrolls that, and
+// of slices makes a loop.
 pub fn is_polynomial(table: &[u64]) -> bool
     ensures { result ≡ is_polynomial table.now }
 {
-    table == POLYNOMIAL.as_slice()
+    match <&[u64; POLYNOMIAL_WORDS]>::try_from(table) {
+        Ok(words) => *words == POLYNOMIAL,
+        Err(_) => false,
+    }
 }
 
 // One step of the evaluation: the next entry, less the whole part of a * v / 2^62.

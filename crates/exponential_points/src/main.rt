@@ -23,7 +23,11 @@ const NAMED: [u64; 12] = [
 
 fn main(rt: HostRuntime) -> io::Result<()> {
     let mut out = BufWriter::new(rt.alloc(), io::writer(&rt))?;
-    for n in NAMED.into_iter().chain((9973..5534960).step_by(9973)) {
+    // The spread by products, since behind a `chain` a `step_by` goes through each number between.
+    for n in NAMED
+        .into_iter()
+        .chain((1..555).map(|i: u32| u64::from(i) * 9973))
+    {
         let e = exponential::exp_or_refusal(n);
         writeln!(out, "{n} {e}")?;
     }

@@ -24,7 +24,7 @@ returns-then-c-i c =
 
 pub overflow_sub-result : goal.overflow_sub-result
 overflow_sub-result c =
-    let v = c.listed-2 in
+    let v = c.listed-value in
     zero_minus_fits (to_z w32 (of_z w32 v.result))
     (rw (read_back {w = w32} (record { sfits = v.type_inv }), v.ensures.value (pos 0)) (lt_of_le_of_lt (within_at 7 c.args.self.key.now c.args.self.small _) (lit≤ tt)))
 
@@ -32,7 +32,7 @@ pub returns : goal.returns
 unfolding term_at
 returns c =
     let a = c.args in
-    let v = c.listed-2 in
+    let v = c.listed-value in
     let value = read_back {w = w32} (record { sfits = v.type_inv }) ∙ v.ensures.value (pos 0) in
     rw (lt-leb a.c a.i c.if-c-i.false)
     (read_back (overflow_sub-result c) ∙ zero_minus (to_z w32 (of_z w32 v.result)) ∙ ap neg_ℤ value, v.ensures.entry_after)
