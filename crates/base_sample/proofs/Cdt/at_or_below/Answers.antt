@@ -24,7 +24,7 @@ less-x-requires c =
     let table = c.args.self.words.now in
     let i = c.loop-i.i in
     let high : get_or c.args.high.now i 0 < 2 ^ 62 = rw (held table c.args.high.now i c.requires.0 (omega arith)) (word_small table i (omega arith) c.args.self.small) in
-    let low : c.listed-low.result < 2 ^ 62 = rw (c.listed-low.ensures.value 0) (word_small table (10 + i) (omega arith) c.args.self.small) in
+    let low : c.listed-low.result < 2 ^ 62 = rw (c.listed-low.ensures.value 0) (word_small table _ (omega arith) c.args.self.small) in
     (omega arith, (c.requires.1, omega (arith, high), low))
 
 pub loop-i-preserved : goal.loop-i-preserved
