@@ -33,7 +33,7 @@ fn columns<R: Read, const N: usize>(row: &mut R) -> io::Result<[u64; N]> {
     Ok(columns)
 }
 
-// The next row. What stdin does not have any more counts as zero bytes: a row asks for it once.
+// What the columns of the next row are read from. What stdin does not have any more counts as zero bytes; a row asks for its end once.
 fn row_of<R: Read>(input: &mut R) -> io::Chain<&mut R, io::Repeat> {
     input.chain(io::repeat(0))
 }

@@ -23,7 +23,8 @@ const NAMED: [u64; 12] = [
 
 fn main(rt: HostRuntime) -> io::Result<()> {
     let mut out = BufWriter::new(rt.alloc(), io::writer(&rt))?;
-    // The spread by products, since behind a `chain` a `step_by` goes through each number between.
+    // The spread is of the multiples of 9973 below the largest n. It is made by products: behind a `chain` a `step_by` goes through each
+    // number between.
     for n in NAMED
         .into_iter()
         .chain((1..555).map(|i: u32| u64::from(i) * 9973))
